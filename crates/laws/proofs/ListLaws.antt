@@ -1,0 +1,87 @@
+-- Lists that are built by their rule: what stands at each place, when two are equal, and a loop that writes one from the front.
+-- Assumes nothing.
+use mathlib.Core.Path.{_≡_, refl, sym, ap, _∙_}
+use mathlib.Core.List.{List, [], _∷_, _++_, append-nil}
+use mathlib.Core.Logic.{⊎-elim}
+use Prim.Native.Nat.{ℕ, zero, suc, _+_, _-_, _≤_, _<_}
+use native.Mathlib.Nat.{add-zero, zero-add, add-suc, suc-add, le-of-suc-le-suc, not-suc-le-zero}
+use native.Mathlib.Numerals.{add-one}
+use native.Mathlib.Omega.{arith}
+use lib.ListN.{length, getD, set, drop, length-append, length-drop, drop-of-length-le, List·getD-append}
+use lib.Seq.{drop-cons, set-at, getD-at, append-snoc, ext-getD, getD-append-add, getD-drop}
+use Rattle.laws.specs.Lists.{listed, front}
+use Rattle.laws.proofs.OrderLaws.{lt-or-ge}
+
+pub listed-length : (i n : ℕ) (f : ℕ → ℕ) → length (listed i n f) ≡ n
+unfolding listed
+listed-length i zero f = refl
+listed-length i (suc n) f = ap suc (listed-length (suc i) n f)
+
+pub listed-at : (i n : ℕ) (f : ℕ → ℕ) (k : ℕ) → k < n → getD (listed i n f) k 0 ≡ f (i + k)
+unfolding listed
+listed-at i zero f k h = absurd (not-suc-le-zero h)
+listed-at i (suc n) f zero h = ap f (sym (add-zero i))
+listed-at i (suc n) f (suc k) h = listed-at (suc i) n f k (le-of-suc-le-suc h) ∙ ap f (suc-add i k ∙ sym (add-suc i k))
+
+pub listed-snoc : (i n : ℕ) (f : ℕ → ℕ) → listed i (suc n) f ≡ listed i n f ++ (f (i + n) ∷ [])
+unfolding listed
+listed-snoc i zero f = ap (λ (k : ℕ). f k ∷ []) (sym (add-zero i))
+listed-snoc i (suc n) f = ap (λ (l : List ℕ). f i ∷ l) (listed-snoc (suc i) n f ∙ ap (λ (k : ℕ). listed (suc i) n f ++ (f k ∷ [])) (suc-add i n ∙ sym (add-suc i n)))
+
+-- the place counted from 0
+pub listed-seen : (n : ℕ) (f : ℕ → ℕ) (k : ℕ) → k < n → getD (listed 0 n f) k 0 ≡ f k
+listed-seen n f k h = listed-at 0 n f k h ∙ ap f (zero-add k)
+
+-- two are equal where their rules agree, and a list of n is the one of its own elements
+pub listed-is : (n : ℕ) (f : ℕ → ℕ) (s : List ℕ) → length s ≡ n → ((k : ℕ) → k < n → f k ≡ getD s k 0) → listed 0 n f ≡ s
+listed-is n f s h e =
+    ext-getD 0 (listed 0 n f) s (listed-length 0 n f ∙ sym h) (λ k b. let b′ : k < n = omega (arith, listed-length 0 n f) in listed-seen n f k b′ ∙ e k b′)
+
+pub listed-same : (n : ℕ) (f g : ℕ → ℕ) → ((k : ℕ) → k < n → f k ≡ g k) → listed 0 n f ≡ listed 0 n g
+listed-same n f g e = listed-is n f (listed 0 n g) (listed-length 0 n g) (λ k b. e k b ∙ sym (listed-seen n g k b))
+
+-- ---- a loop that rewrites a list from the front: i places are written, the rest of s stands
+pub front-none : (f : ℕ → ℕ) (s : List ℕ) → s ≡ front 0 f s
+unfolding front listed
+front-none f s = refl
+
+pub front-length : (i : ℕ) (f : ℕ → ℕ) (s : List ℕ) → i ≤ length s → length (front i f s) ≡ length s
+unfolding front
+front-length i f s h = simp (length-append, length-drop, listed-length) (omega arith)
+
+-- what stands at i is still s's
+pub front-seen : (i : ℕ) (f : ℕ → ℕ) (s t : List ℕ) → t ≡ front i f s → i < length s → getD t i 0 ≡ getD s i 0
+unfolding front
+front-seen i f s t e h = rw e (rw (drop-cons s i 0 h) (getD-at (listed 0 i f) (getD s i 0) (drop (suc i) s) 0 i (listed-length 0 i f)))
+
+pub front-more : (i : ℕ) (f : ℕ → ℕ) (s t : List ℕ) (v : ℕ) → t ≡ front i f s → i < length s → v ≡ f i → set t i v ≡ front (i + 1) f s
+unfolding front
+front-more i f s t v e h w =
+    rw (e, drop-cons s i 0 h, w, add-one i)
+    (set-at (listed 0 i f) (getD s i 0) (drop (suc i) s) (f i) i (listed-length 0 i f)
+    ∙ sym (append-snoc (listed 0 i f) (f i) (drop (suc i) s))
+    ∙ ap (λ (l : List ℕ). l ++ drop (suc i) s) (ap (λ (k : ℕ). listed 0 i f ++ (f k ∷ [])) (sym (zero-add i)) ∙ sym (listed-snoc 0 i f)))
+
+pub front-all : (n i : ℕ) (f : ℕ → ℕ) (s t : List ℕ) → t ≡ front i f s → length s ≡ n → i ≡ n → t ≡ listed 0 n f
+unfolding front
+front-all n i f s t e h k = rw (e, k, drop-of-length-le s {i = n} (omega arith)) (append-nil (listed 0 n f))
+
+-- what stands before i is by the rule, and from i on as in s
+pub front-before : (i : ℕ) (f : ℕ → ℕ) (s : List ℕ) (k : ℕ) → k < i → getD (front i f s) k 0 ≡ f k
+unfolding front
+front-before i f s k p =
+    List·getD-append (listed 0 i f) (drop i s) 0 k (omega (arith, listed-length 0 i f)) ∙ listed-seen i f k p
+
+pub front-after : (i : ℕ) (f : ℕ → ℕ) (s : List ℕ) (k : ℕ) → i ≤ k → getD (front i f s) k 0 ≡ getD s k 0
+unfolding front
+front-after i f s k p =
+    let e₁ : k ≡ length (listed 0 i f) + (k - i) = omega (arith, listed-length 0 i f) in
+    let e₂ : i + (k - i) ≡ k = omega arith in
+    ap (λ (m : ℕ). getD (front i f s) m 0) e₁ ∙ getD-append-add (listed 0 i f) (drop i s) (k - i) 0 ∙ getD-drop i s (k - i) 0 ∙ ap (λ (m : ℕ). getD s m 0) e₂
+
+-- a loop that stops early, where the rule leaves what follows as it is
+pub front-rest : (n i : ℕ) (f : ℕ → ℕ) (s t : List ℕ) → t ≡ front i f s → length s ≡ n → i ≤ n → ((k : ℕ) → i ≤ k → f k ≡ getD s k 0) → t ≡ listed 0 n f
+front-rest n i f s t e h b same =
+    e
+    ∙ sym (listed-is n f (front i f s) (front-length i f s (omega arith) ∙ h)
+    (λ k l. ⊎-elim (λ p. sym (front-before i f s k p)) (λ p. same k p ∙ sym (front-after i f s k p)) (lt-or-ge k i)))

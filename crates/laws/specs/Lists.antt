@@ -1,0 +1,17 @@
+-- Lists by their rule, and a list laid over another.
+use mathlib.Core.List.{List, [], _∷_, _++_}
+use Prim.Native.Nat.{ℕ, zero, suc, _+_}
+use lib.ListN.{length, take, drop}
+
+-- f i, f (i + 1), .. : n of them
+unfoldable pub listed : ℕ → ℕ → (ℕ → ℕ) → List ℕ
+listed i zero f = []
+listed i (suc n) f = f i ∷ listed (suc i) n f
+
+-- the first i places by the rule f, the rest of s as it stands: a loop that rewrites s has come to i
+unfoldable pub front : ℕ → (ℕ → ℕ) → List ℕ → List ℕ
+front i f s = listed 0 i f ++ drop i s
+
+-- b laid over l from at on
+unfoldable pub splice : List ℕ → ℕ → List ℕ → List ℕ
+splice l at b = take at l ++ (b ++ drop (at + length b) l)

@@ -1,0 +1,38 @@
+-- The two answers of a call, and one round more.
+-- Assumes nothing.
+use mathlib.Core.Path.{_≡_, refl, sym, ap, _∙_}
+use mathlib.Core.List.{List}
+use Prim.Native.Nat.{ℕ, suc, _+_, _-_, _<_}
+use native.Mathlib.Omega.{arith}
+use native.Mathlib.Numerals.{add-one}
+use borrow.Author.Tests.{ne-eqb, eq-eqb}
+use lib.ListN.{length}
+use Rattle.laws.specs.Choose.{pick}
+use Rattle.permutation.specs.Permutation.{constant, round, rounds, π, round⁻, rounds⁻, π⁻, whole, Permuted}
+
+pub refused : (by : List ℕ → List ℕ) (s : List ℕ) → (length s ≡ 64 → ⊥) → Permuted by s 2 s
+unfolding whole
+refused by s h = record { code = rw (ne-eqb (length s) 64 h); state = rw (ne-eqb (length s) 64 h) }
+
+pub done : (by : List ℕ → List ℕ) (s t : List ℕ) → length s ≡ 64 → t ≡ by s → Permuted by s 0 t
+unfolding whole
+done by s t h e = record { code = rw (eq-eqb (length s) 64 h); state = rw (eq-eqb (length s) 64 h) e }
+
+pub rounds-more : (r : ℕ) (s t u : List ℕ) → t ≡ rounds r s → u ≡ round (constant r) t → u ≡ rounds (r + 1) s
+unfolding rounds
+rounds-more r s t u e g = g ∙ ap (round (constant r)) e ∙ ap (λ (n : ℕ). rounds n s) (sym (add-one r))
+
+pub rounds-all : (r : ℕ) (s t : List ℕ) → t ≡ rounds r s → r ≡ 12 → t ≡ π s
+unfolding π
+rounds-all r s t e h = e ∙ ap (λ (n : ℕ). rounds n s) h
+
+-- one round undone: what is left to undo gives the same
+pub back-more : (r : ℕ) (t u : List ℕ) → 0 < r → u ≡ round⁻ (constant (r - 1)) t → rounds⁻ (r - 1) u ≡ rounds⁻ r t
+unfolding rounds⁻
+back-more r t u h e =
+    let g : r ≡ suc (r - 1) = omega arith in
+    ap (rounds⁻ (r - 1)) e ∙ ap (λ (n : ℕ). rounds⁻ n t) (sym g)
+
+pub back-all : (r : ℕ) (s t : List ℕ) → rounds⁻ r t ≡ π⁻ s → r ≡ 0 → t ≡ π⁻ s
+unfolding rounds⁻
+back-all r s t e h = sym (ap (λ (n : ℕ). rounds⁻ n t) h) ∙ e

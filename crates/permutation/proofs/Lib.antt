@@ -1,0 +1,10 @@
+pub mod Build
+pub mod Field
+pub mod Mixing
+pub mod Answers
+pub mod Tables
+pub mod Products
+pub mod Sums
+pub mod Laws
+pub mod Cases
+pub mod Trip

@@ -1,0 +1,28 @@
+-- `permutation::cell` meets its contract: doubling adds up, so three doublings serve all eight bytes.
+-- Assumes nothing.
+use Rattle.laws.specs.Xor.{xor}
+use Rattle.permutation.proofs.Mixing.{cellOf, cell-is}
+use borrow.Author.Needs.{needs}
+use Rattle.permutation.proofs.cell.Statement.{statement}
+use Rattle.permutation.proofs.cell.Tie as tie
+use Rattle.permutation.proofs.cell.Reads as reads
+use Rattle.permutation.proofs.cell.Lts as lts
+use Rattle.permutation.proofs.double.Reads as double-reads
+
+double-requires : tie.Need-double-requires
+double-requires c κs = search needs
+
+double-requires-2 : tie.Need-double-requires-2
+double-requires-2 c κs = search needs
+
+double-requires-3 : tie.Need-double-requires-3
+double-requires-3 c κs = search needs
+
+returns : tie.Need-returns
+unfolding xor cellOf
+returns c =
+    let x = c .before .before .before .args in
+    rw (c .double3 .ensures, c .before .double2 .ensures, c .before .before .double .ensures) (cell-is (x .a) (x .b) (x .c) (x .d) (x .e) (x .f) (x .g) (x .h))
+
+pub cell-spec : {M : Type 1} → statement M
+cell-spec = tie.close (tie.spec double-requires double-requires-2 double-requires-3 returns)

@@ -1,0 +1,2 @@
+-- What the four block operations of BLNK are.
+pub mod Blink
