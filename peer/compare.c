@@ -1,0 +1,329 @@
+/* compare [SEED [CASES]]: holds the peer and the kit's static library against
+ * each other on random cases of the eight calls: the number, every lent
+ * buffer, and the guard bytes on both sides of it. Exit 1 at the first
+ * difference, 2 on wrong arguments. */
+#include <inttypes.h>
+#include <stdbool.h>
+#include <stdio.h>
+#include <stdlib.h>
+#include <string.h>
+
+#include "blnk.h"
+#include "notchbadger.h"
+#include "pi.h"
+#include "seal.h"
+
+#define DEFAULT_SEED 20150828u
+#define DEFAULT_CASES 10000u
+#define GUARD 64
+#define ROOM 65664 /* above every length that is drawn */
+#define STRIPS 5   /* the most buffers one call is lent */
+
+static const char *const calls[] = {
+    "permute", "permute_back", "put", "get", "enc", "dec", "seal", "open",
+};
+
+enum call { PERMUTE, PERMUTE_BACK, PUT, GET, ENC, DEC, SEAL, OPEN, CALLS };
+
+/* The strips of a call, in the order of its arguments. */
+enum { STATE = 0, IN = 1, OUT = 2 };                         /* block operations */
+enum { KEY = 0, NONCE = 1, DATA = 2, TEXT = 3, RECEIVER = 4 }; /* seal, open */
+
+struct strip {
+    size_t length;
+    uint8_t peer[GUARD + ROOM + GUARD];
+    uint8_t kit[GUARD + ROOM + GUARD];
+};
+
+static struct strip strips[STRIPS];
+static struct {
+    enum call call;
+    uint8_t domain;
+    bool wild;     /* refusals crowded together, to see which cause comes first */
+    size_t pinned; /* 1 to 3: every length is the limit, less 2 and plus this */
+    const char *sort;
+} now;
+static uint64_t reel;
+
+/* splitmix64 */
+static uint64_t draw(void)
+{
+    uint64_t z = reel += UINT64_C(0x9E3779B97F4A7C15);
+
+    z = (z ^ (z >> 30)) * UINT64_C(0xBF58476D1CE4E5B9);
+    z = (z ^ (z >> 27)) * UINT64_C(0x94D049BB133111EB);
+    return z ^ (z >> 31);
+}
+
+static size_t below(size_t n)
+{
+    return (size_t)(draw() % n);
+}
+
+/* The edges of the groups most of all, then short ones, long ones seldom, and
+ * `limit`, the one before and the one past it in one of 500. A length past the
+ * limit is refused and costs no permutation, so a wild case may have many. */
+static size_t draw_length(size_t limit)
+{
+    static const size_t edges[] = {0, 1, 15, 16, 31, 32, 33, 63, 64, 65, 95, 96, 97};
+    size_t way = below(500);
+
+    if (now.pinned > 0)
+        return limit - 2 + now.pinned;
+    if (now.wild && way % 2 == 0)
+        return limit + 1;
+    if (way == 0)
+        return limit - 1 + below(3);
+    if (way < 5)
+        return below(8192);
+    if (way < 60)
+        return below(600);
+    if (way < 280)
+        return edges[below(sizeof edges / sizeof edges[0])];
+    return below(130);
+}
+
+/* Mostly the right length; else one beside it, none, or any small one. */
+static size_t draw_near(size_t right)
+{
+    if (now.pinned > 0)
+        return right;
+    switch (below(now.wild ? 8 : 60)) {
+    case 0: return right + 1;
+    case 1: return right > 0 ? right - 1 : 1;
+    case 2: return 0;
+    case 3: return below(130);
+    default: return right;
+    }
+}
+
+/* Whole words, since most of the time of a short case goes here. */
+static void record_noise(struct strip *strip)
+{
+    size_t n = GUARD + strip->length + GUARD;
+
+    for (size_t i = 0; i < n; i += 8) {
+        uint64_t word = draw();
+        for (size_t j = i; j < i + 8 && j < n; j++, word >>= 8)
+            strip->peer[j] = (uint8_t)word;
+    }
+}
+
+static void lend(int which, size_t length)
+{
+    strips[which].length = length;
+    record_noise(&strips[which]);
+}
+
+static uint8_t draw_domain(void)
+{
+    static const uint8_t named[] = {BLNK_KEY, BLNK_NPUB, BLNK_AAD, BLNK_MSG, BLNK_MAC};
+
+    return below(2) ? named[below(sizeof named)] : (uint8_t)below(256);
+}
+
+static void draw_operation(void)
+{
+    size_t n = draw_length(NB_OPERATION_MAX);
+
+    now.domain = draw_domain();
+    lend(STATE, draw_near(NB_STATE_BYTES));
+    if (now.call == PUT || now.call == ENC || now.call == DEC)
+        lend(IN, n);
+    if (now.call == GET)
+        lend(OUT, n);
+    if (now.call == ENC || now.call == DEC)
+        lend(OUT, draw_near(n));
+}
+
+static uint8_t *bytes(int which)
+{
+    return strips[which].peer + GUARD;
+}
+
+/* Sealed bytes that fit the key, nonce and data of the case, so far as those
+ * can be sealed at all; otherwise the noise stays. */
+static void make_sealed(void)
+{
+    size_t n = strips[TEXT].length;
+    static uint8_t message[ROOM], sealed[ROOM];
+
+    if (n < NB_TAG_BYTES)
+        return;
+    memcpy(message, bytes(TEXT), n);
+    if (seal(bytes(KEY), strips[KEY].length, bytes(NONCE), strips[NONCE].length,
+             bytes(DATA), strips[DATA].length, message, n - NB_TAG_BYTES,
+             sealed, n) == 0)
+        memcpy(bytes(TEXT), sealed, n);
+}
+
+/* One bit of the key, the nonce, the data or the sealed bytes, or of the tag
+ * alone, since it is short. */
+static void damage(void)
+{
+    int which = (int)below(STRIPS);
+    size_t from = 0;
+
+    now.sort = "damaged";
+    if (which == RECEIVER) {
+        which = TEXT;
+        if (strips[TEXT].length >= NB_TAG_BYTES)
+            from = strips[TEXT].length - NB_TAG_BYTES;
+    }
+    size_t n = strips[which].length - from;
+    if (n > 0)
+        bytes(which)[from + below(n)] ^= (uint8_t)(1u << below(8));
+}
+
+static void draw_sealing(void)
+{
+    size_t message = draw_length(NB_MESSAGE_MAX);
+    size_t sealed = message + NB_TAG_BYTES;
+
+    lend(KEY, draw_near(NB_KEY_BYTES));
+    lend(NONCE, draw_near(NB_NONCE_BYTES));
+    lend(DATA, draw_length(NB_DATA_MAX));
+    if (now.call == SEAL) {
+        lend(TEXT, message);
+        lend(RECEIVER, draw_near(sealed));
+        return;
+    }
+    if (now.pinned == 0 && below(30) == 0) {
+        sealed = below(NB_TAG_BYTES + 1);
+        message = 0;
+    }
+    lend(TEXT, sealed);
+    lend(RECEIVER, draw_near(message));
+    make_sealed();
+    if (now.pinned == 0 && below(2) == 0)
+        damage();
+}
+
+/* The first cases of a run are the limits of the six calls that have one; the
+ * rest is left to the generator. */
+static void choose_call(uint64_t number)
+{
+    uint64_t limited = CALLS - PUT;
+
+    now.pinned = number < 3 * limited ? (size_t)(1 + number / limited) : 0;
+    now.call = (enum call)(now.pinned > 0 ? PUT + number % limited : below(CALLS));
+    now.wild = now.pinned == 0 && below(20) == 0;
+    now.sort = now.pinned > 0 ? "limit" : now.wild ? "wild" : "whole";
+    now.domain = 0;
+}
+
+static void draw_case(uint64_t number)
+{
+    for (int i = 0; i < STRIPS; i++)
+        strips[i].length = 0;
+    choose_call(number);
+    if (now.call == PERMUTE || now.call == PERMUTE_BACK)
+        lend(STATE, draw_near(NB_STATE_BYTES));
+    else if (now.call == SEAL || now.call == OPEN)
+        draw_sealing();
+    else
+        draw_operation();
+    for (int i = 0; i < STRIPS; i++)
+        memcpy(strips[i].kit, strips[i].peer, GUARD + strips[i].length + GUARD);
+}
+
+/* Pointer and length of a strip, as two arguments. */
+#define PEER(which) strips[which].peer + GUARD, strips[which].length
+#define KIT(which) strips[which].kit + GUARD, strips[which].length
+
+static uint8_t run_peer(void)
+{
+    switch (now.call) {
+    case PERMUTE: return pi_permute(PEER(STATE));
+    case PERMUTE_BACK: return pi_permute_back(PEER(STATE));
+    case PUT: return blnk_put(PEER(STATE), PEER(IN), now.domain);
+    case GET: return blnk_get(PEER(STATE), PEER(OUT), now.domain);
+    case ENC: return blnk_enc(PEER(STATE), PEER(IN), PEER(OUT), now.domain);
+    case DEC: return blnk_dec(PEER(STATE), PEER(IN), PEER(OUT), now.domain);
+    case SEAL: return seal(PEER(KEY), PEER(NONCE), PEER(DATA), PEER(TEXT), PEER(RECEIVER));
+    default: return unseal(PEER(KEY), PEER(NONCE), PEER(DATA), PEER(TEXT), PEER(RECEIVER));
+    }
+}
+
+static uint8_t run_kit(void)
+{
+    switch (now.call) {
+    case PERMUTE: return nb_permute(KIT(STATE));
+    case PERMUTE_BACK: return nb_permute_back(KIT(STATE));
+    case PUT: return nb_put(KIT(STATE), KIT(IN), now.domain);
+    case GET: return nb_get(KIT(STATE), KIT(OUT), now.domain);
+    case ENC: return nb_enc(KIT(STATE), KIT(IN), KIT(OUT), now.domain);
+    case DEC: return nb_dec(KIT(STATE), KIT(IN), KIT(OUT), now.domain);
+    case SEAL: return nb_seal(KIT(KEY), KIT(NONCE), KIT(DATA), KIT(TEXT), KIT(RECEIVER));
+    default: return nb_open(KIT(KEY), KIT(NONCE), KIT(DATA), KIT(TEXT), KIT(RECEIVER));
+    }
+}
+
+static void print_case(uint64_t seed, uint64_t number)
+{
+    printf("compare: DIFFERENT at case %" PRIu64 " of seed %" PRIu64 ": %s, %s, domain %02X, "
+           "lengths", number, seed, calls[now.call], now.sort, now.domain);
+    for (int i = 0; i < STRIPS; i++)
+        printf(" %lu", (unsigned long)strips[i].length);
+    putchar('\n');
+}
+
+/* The first place where the two sides of a strip differ, counted from the
+ * lent part's own front: below 0 and past its length are guard bytes. */
+static bool strip_differs(int which)
+{
+    const struct strip *strip = &strips[which];
+    size_t n = GUARD + strip->length + GUARD;
+
+    for (size_t i = 0; i < n; i++) {
+        if (strip->peer[i] == strip->kit[i])
+            continue;
+        printf("compare: strip %d, byte %ld: peer %02X, library %02X\n",
+               which, (long)i - GUARD, strip->peer[i], strip->kit[i]);
+        return true;
+    }
+    return false;
+}
+
+static bool agree(void)
+{
+    uint8_t peer = run_peer();
+    uint8_t kit = run_kit();
+    bool same = peer == kit;
+
+    if (!same)
+        printf("compare: numbers: peer %u, library %u\n", peer, kit);
+    for (int i = 0; i < STRIPS; i++)
+        if (strip_differs(i))
+            same = false;
+    return same;
+}
+
+static int argument(const char *text, uint64_t *number)
+{
+    char *end;
+
+    *number = strtoull(text, &end, 10);
+    return *text >= '0' && *text <= '9' && *end == '\0';
+}
+
+int main(int argc, char **argv)
+{
+    uint64_t seed = DEFAULT_SEED, cases = DEFAULT_CASES;
+
+    if (argc > 3 || (argc > 1 && !argument(argv[1], &seed))
+        || (argc > 2 && !argument(argv[2], &cases))) {
+        fputs("usage: compare [SEED [CASES]]\n", stderr);
+        return 2;
+    }
+    reel = seed;
+    for (uint64_t i = 0; i < cases; i++) {
+        draw_case(i);
+        if (!agree()) {
+            print_case(seed, i);
+            return 1;
+        }
+    }
+    printf("compare: %" PRIu64 " cases of 8 calls agree (seed %" PRIu64 ")\n", cases, seed);
+    return 0;
+}
