@@ -188,6 +188,22 @@ static int print_rounds(FILE *to)
     return missed;
 }
 
+/* The published sealing and its trace, back from the last permutation: the
+ * program finds each line from the one before by undoing π and the padding. */
+static void print_trace(FILE *to)
+{
+    fputs("# 1.3.2 sealed\n", to);
+    print_hex(to, paper_sealed, PAPER_SEALED);
+    fputs("\n# 1.3.2 trace, from its end\n", to);
+    for (int k = PAPER_TRACE - 1; k >= 0; k--) {
+        fprintf(to, "out %d ", k);
+        print_hex(to, paper_pi_out[k], 64);
+        fprintf(to, "\nBlock %d ", k);
+        print_hex(to, paper_block[k], 64);
+        fputc('\n', to);
+    }
+}
+
 int vectors_stdin(FILE *to)
 {
     const struct call *calls;
@@ -208,6 +224,7 @@ int vectors_stdout(FILE *to)
 
     print_table(to);
     missed |= print_rounds(to);
+    print_trace(to);
     fputs("# calls\n", to);
     for (size_t i = 0; i < n; i++)
         print_answer(to, &calls[i]);
