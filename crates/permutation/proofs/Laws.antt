@@ -21,8 +21,7 @@ use Rattle.permutation.specs.Table.{S, S⁻, table, backTable}
 use Rattle.permutation.specs.Field.{only, double, timesBits, times}
 use Rattle.permutation.specs.Permutation.{state, substitute, substitute⁻, source, target, shift, shift⁻, first, first⁻, turned, mixWith, mix, mix⁻, scramble, scramble⁻, added, constant, round, round⁻, rounds, rounds⁻, π, π⁻}
 use Rattle.permutation.proofs.Build.{state-length, state-at, state-is, state-same}
-use Rattle.permutation.proofs.Mixing.{times-1}
-use Rattle.permutation.proofs.Products.{times-assoc, times-byte, zero-times}
+use Rattle.permutation.proofs.Products.{times-assoc, times-byte, zero-times, one-times}
 use Rattle.permutation.proofs.Sums.{times-all, all-times}
 use Rattle.permutation.proofs.Tables.{S⁻-S, S-S⁻, S-byte, S⁻-byte}
 
@@ -85,6 +84,15 @@ target-below k = omega arith
 source-below : (k : ℕ) → source k < 64
 unfolding source
 source-below k = omega arith
+
+-- both steps at once
+pub moved : (s : List ℕ) → state (λ k. S (getD s (source k) 0)) ≡ shift (substitute s)
+unfolding shift substitute
+moved s = state-same _ _ (λ k h. sym (state-at (λ k. S (getD s k 0)) (source k) (source-below k)))
+
+pub moved⁻ : (s : List ℕ) → state (λ k. S⁻ (getD s (target k) 0)) ≡ substitute⁻ (shift⁻ s)
+unfolding shift⁻ substitute⁻
+moved⁻ s = state-same _ _ (λ k h. ap S⁻ (sym (state-at (λ k. getD s (target k) 0) k h)))
 
 there : ℕ → ℕ → Bool
 there k x = eqb (source (target k)) k
@@ -208,7 +216,7 @@ mix-diagonal c s =
     diagonal c (λ i. getD s (k / 8 * 8 + i) 0) (k % 8) (mod-lt k (lit< tt)) ∙ ap (λ (n : ℕ). times c (getD s n 0)) e)
 
 mix-one : (s : List ℕ) → Whole s → mixWith (only-at 1) s ≡ s
-mix-one s w = mix-diagonal 1 s ∙ state-is _ s (w .full) (λ k h. times-1 (getD s k 0))
+mix-one s w = mix-diagonal 1 s ∙ state-is _ s (w .full) (λ k h. one-times (getD s k 0))
 
 pub mix⁻-mix : (s : List ℕ) → Whole s → mix⁻ (mix s) ≡ s
 unfolding mix mix⁻ first first⁻ only-at composed places listed turned xorAll times timesBits double only xor

@@ -56,7 +56,7 @@ unfolding only
 none zero = refl
 none (suc b) = refl
 
-double-zero : double 0 ≡ 0
+pub double-zero : double 0 ≡ 0
 unfolding double only xor
 double-zero = refl
 
@@ -72,6 +72,10 @@ times-zero c = bits-zero 8 c
 pub zero-times : (x : ℕ) → times 0 x ≡ 0
 unfolding times timesBits only
 zero-times x = simp zero-xor
+
+pub one-times : (x : ℕ) → times 1 x ≡ x
+unfolding times timesBits only
+one-times x = simp (xor-zero, zero-xor)
 
 -- ---- what adds up and holds of the eight bits holds of every byte
 bitsOf : ℕ → ℕ
@@ -152,7 +156,7 @@ unfolding only double xor
 chosen zero x = refl
 chosen (suc b) x = refl
 
-double-bits : (n c x : ℕ) → double (timesBits n c x) ≡ timesBits n c (double x)
+pub double-bits : (n c x : ℕ) → double (timesBits n c x) ≡ timesBits n c (double x)
 unfolding timesBits
 double-bits zero c x = double-zero
 double-bits (suc n) c x =
