@@ -1,13 +1,12 @@
 -- The two answers of a call, and one round more.
 -- Assumes nothing.
-use mathlib.Core.Path.{_≡_, refl, sym, ap, _∙_}
+use mathlib.Core.Path.{_≡_, sym, ap, _∙_}
 use mathlib.Core.List.{List}
 use Prim.Native.Nat.{ℕ, suc, _+_, _-_, _<_}
 use native.Mathlib.Omega.{arith}
 use native.Mathlib.Numerals.{add-one}
 use borrow.Author.Tests.{ne-eqb, eq-eqb}
 use lib.ListN.{length}
-use Rattle.laws.specs.Choose.{pick}
 use Rattle.permutation.specs.Permutation.{constant, round, rounds, π, round⁻, rounds⁻, π⁻, whole, Permuted, Rounded}
 
 pub refused : (by : List ℕ → List ℕ) (s : List ℕ) → (length s ≡ 64 → ⊥) → Permuted by s 2 s

@@ -2,14 +2,13 @@
 -- Assumes nothing.
 use mathlib.Core.Path.{_≡_, refl, sym, ap, ap₂, subst, _∙_}
 use mathlib.Core.Bool.{Bool}
-use Prim.Native.Nat.{ℕ, zero, suc, _+_, _*_, _/_, _%_, _<_}
+use Prim.Native.Nat.{ℕ, zero, suc, _*_, _/_, _%_, _<_}
 use native.Mathlib.Nat.{mod-lt}
-use lib.Dec.{T, lit<, eqb, eqb→eq}
-use lib.ListN.{getD}
-use lib.Bits.{bitXor, xor-shr, xor-mod, xor-lt}
-use Rattle.laws.specs.Xor.{xor, xorAll}
+use lib.Dec.{lit<, eqb, eqb→eq}
+use lib.Bits.{bitXor, xor-shr, xor-mod}
+use Rattle.laws.specs.Xor.{xor}
 use Rattle.laws.proofs.TableLaws.{at}
-use Rattle.laws.proofs.XorLaws.{xor-byte, low, ac, xor-assoc, xor-zero, zero-xor}
+use Rattle.laws.proofs.XorLaws.{xor-byte, low, ac, xor-zero, zero-xor}
 use Rattle.permutation.specs.Table.{table}
 use Rattle.permutation.specs.Field.{only, double, timesBits, times}
 use Rattle.permutation.proofs.Field.{only-xor, double-xor}

@@ -1,7 +1,7 @@
 -- `permutation::mix` meets its contract. The invariant of its loop: the first i rows are mixed.
 -- Assumes nothing.
 use native.Mathlib.Omega.{arith}
-use mathlib.Core.Path.{_≡_, refl, ap, _∙_}
+use mathlib.Core.Path.{_≡_, ap, _∙_}
 use Prim.Native.Nat.{_-_, _*_, _≤_}
 use lib.ListN.{length}
 use Rattle.laws.specs.Lists.{front}

@@ -2,8 +2,8 @@
 -- Assumes nothing.
 use native.Mathlib.Omega.{arith}
 use mathlib.Core.Path.{_≡_, refl, sym, ap, _∙_}
-use Prim.Native.Nat.{ℕ, _+_, _-_, _≤_, _<_}
-use lib.ListN.{length, getD, take, length-set}
+use Prim.Native.Nat.{ℕ, _-_, _≤_}
+use lib.ListN.{length, take, length-set}
 use lib.Seq.{take-suc, take-all, length-take-le}
 use Rattle.laws.specs.Lists.{splice}
 use Rattle.laws.proofs.SpliceLaws.{splice-nil, fill-step}

@@ -1,7 +1,6 @@
 -- `permutation::round_back` meets its contract: the two refusals, then its two steps.
 -- Assumes nothing.
-use mathlib.Core.Path.{_≡_, refl, _∙_}
-use lib.ListN.{length}
+use mathlib.Core.Path.{refl, _∙_}
 use Rattle.permutation.specs.Table.{backTable}
 use Rattle.permutation.specs.Permutation.{round⁻}
 use Rattle.permutation.proofs.Answers.{no-state, no-key, keyed}

@@ -1,16 +1,16 @@
 -- `permutation::shift_and_substitute_back` meets its contract. The invariant of its loop: the first k bytes are in their places, and substituted back.
 -- Assumes nothing.
 use native.Mathlib.Omega.{arith}
-use mathlib.Core.Path.{_≡_, refl, ap, _∙_}
+use mathlib.Core.Path.{_≡_, ap, _∙_}
 use mathlib.Core.List.{List}
-use Prim.Native.Nat.{ℕ, _-_, _≤_, _<_}
+use Prim.Native.Nat.{ℕ, _-_, _≤_}
 use lib.ListN.{length, getD, length-set}
 use Rattle.laws.specs.Lists.{front}
 use Rattle.laws.proofs.ListLaws.{front-none, front-more}
 use Rattle.permutation.specs.Table.{S⁻}
 use Rattle.permutation.specs.Permutation.{target}
 use Rattle.permutation.proofs.Build.{state-all}
-use Rattle.permutation.proofs.Laws.{moved⁻}
+use Rattle.permutation.proofs.ShiftLaws.{moved⁻}
 use borrow.Author.Needs.{needs}
 use Rattle.permutation.proofs.shift_and_substitute_back.Statement.{statement}
 use Rattle.permutation.proofs.shift_and_substitute_back.Tie as tie

@@ -3,14 +3,14 @@
 use native.Mathlib.Omega.{arith}
 use mathlib.Core.Path.{_≡_, refl, ap, _∙_}
 use mathlib.Core.List.{List}
-use Prim.Native.Nat.{ℕ, _-_, _≤_, _<_}
+use Prim.Native.Nat.{ℕ, _-_, _≤_}
 use lib.ListN.{length, getD, length-set}
 use Rattle.laws.specs.Lists.{front}
 use Rattle.laws.proofs.ListLaws.{front-none, front-more}
 use Rattle.permutation.specs.Table.{S}
 use Rattle.permutation.specs.Permutation.{source}
 use Rattle.permutation.proofs.Build.{state-all}
-use Rattle.permutation.proofs.Laws.{moved}
+use Rattle.permutation.proofs.ShiftLaws.{moved}
 use Rattle.permutation.proofs.substituted_and_shifted.Statement.{statement}
 use Rattle.permutation.proofs.substituted_and_shifted.Tie as tie
 use Rattle.permutation.proofs.substituted_and_shifted.Reads as reads
