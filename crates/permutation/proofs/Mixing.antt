@@ -52,7 +52,9 @@ unfolding horner turned first eight only xorAll
 three a b c d e f g h = simp (double-zero, xor-zero, zero-xor, xor-assoc)
 
 pub seven : (a b c d e f g h : ℕ)
-    → xor (xor b g) (double (xor (xor (xor (xor (xor (xor a b) c) d) f) g) (double (xor (xor (xor (xor (xor a e) f) g) h) (double (xor (xor (xor (xor a b) f) g) (double (xor a (double (xor (xor (xor a e) g) (double (xor (xor (xor b c) d) (double (xor (xor (xor (xor b c) d) e) g))))))))))))))
+    → xor (xor b g) (double (xor (xor (xor (xor (xor (xor a b) c) d) f) g)
+    (double (xor (xor (xor (xor (xor a e) f) g) h) (double (xor (xor (xor (xor a b) f) g) (double (xor a
+    (double (xor (xor (xor a e) g) (double (xor (xor (xor b c) d) (double (xor (xor (xor (xor b c) d) e) g))))))))))))))
     ≡ horner 8 8 (λ i. turned first⁻ i 7) (eight a b c d e f g h)
 unfolding horner turned first⁻ eight only xorAll
 seven a b c d e f g h = simp (double-zero, xor-zero, zero-xor, xor-assoc)

@@ -74,7 +74,7 @@ zero-times x = simp zero-xor
 
 pub one-times : (x : ℕ) → times 1 x ≡ x
 unfolding times timesBits only
-one-times x = simp (xor-zero, zero-xor)
+one-times x = simp xor-zero
 
 -- ---- what adds up and holds of the eight bits holds of every byte
 bitsOf : ℕ → ℕ

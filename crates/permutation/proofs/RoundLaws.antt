@@ -71,14 +71,6 @@ scramble-scramble⁻ s w =
     ∙ ap mix (shift-shift⁻ (mix⁻ s) w₁)
     ∙ mix-mix⁻ s w
 
-pub round-whole : (key s : List ℕ) → Whole key → Whole (round key s)
-unfolding round
-round-whole key s wk = added-whole key (scramble s) wk (scramble-whole s)
-
-pub round⁻-whole : (key s : List ℕ) → Whole (round⁻ key s)
-unfolding round⁻
-round⁻-whole key s = scramble⁻-whole (added key s)
-
 pub round⁻-round : (key s : List ℕ) → Whole s → round⁻ key (round key s) ≡ s
 unfolding round round⁻
 round⁻-round key s w = ap scramble⁻ (added-added key (scramble s) (scramble-whole s)) ∙ scramble⁻-scramble s w
@@ -86,6 +78,14 @@ round⁻-round key s w = ap scramble⁻ (added-added key (scramble s) (scramble-
 pub round-round⁻ : (key s : List ℕ) → Whole key → Whole s → round key (round⁻ key s) ≡ s
 unfolding round round⁻
 round-round⁻ key s wk w = ap (added key) (scramble-scramble⁻ (added key s) (added-whole key s wk w)) ∙ added-added key s w
+
+pub round-whole : (key s : List ℕ) → Whole key → Whole (round key s)
+unfolding round
+round-whole key s wk = added-whole key (scramble s) wk (scramble-whole s)
+
+pub round⁻-whole : (key s : List ℕ) → Whole (round⁻ key s)
+unfolding round⁻
+round⁻-whole key s = scramble⁻-whole (added key s)
 
 rounds-whole : (n : ℕ) (s : List ℕ) → Whole s → Whole (rounds n s)
 unfolding rounds

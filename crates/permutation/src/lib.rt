@@ -11,6 +11,11 @@ mod back;
 mod boxes;
 mod table;
 
+// The bytes of a state and of a key, and the answer where there are more or fewer.
+const SIZE: usize = 64;
+
+const WRONG_SIZE: u8 = 2;
+
 // ---- The table. It is copied to memory once a call, and lent: a constant array is copied anew wherever it is read.
 fn substituted(t: &[u8; 256], x: u8) -> u8
     requires { ⌜ now t ≡ table ⌝ }
@@ -129,8 +134,8 @@ fn pi_round(t: &[u8; 256], state: &mut [u8], r: usize)
 pub fn permute(state: &mut [u8]) -> u8
     ensures { λ r. ⌜ Permuted π (now (state .entry)) r (now (state .exit)) ⌝ }
 {
-    if state.len() != 64 {
-        return 2;
+    if state.len() != SIZE {
+        return WRONG_SIZE;
     }
     let t = table::TABLE;
     for r in 0..12 {
@@ -152,11 +157,11 @@ fn add_key(state: &mut [u8], key: &[u8])
 pub fn round(state: &mut [u8], key: &[u8]) -> u8
     ensures { λ r. ⌜ Rounded round (now (key .entry)) (now (state .entry)) r (now (state .exit)) ⌝ }
 {
-    if state.len() != 64 {
-        return 2;
+    if state.len() != SIZE {
+        return WRONG_SIZE;
     }
-    if key.len() != 64 {
-        return 2;
+    if key.len() != SIZE {
+        return WRONG_SIZE;
     }
     let t = table::TABLE;
     scramble(&t, state);
@@ -254,8 +259,8 @@ fn pi_round_back(t: &[u8; 256], b: &[u8; 256], state: &mut [u8], r: usize)
 pub fn permute_back(state: &mut [u8]) -> u8
     ensures { λ r. ⌜ Permuted π⁻ (now (state .entry)) r (now (state .exit)) ⌝ }
 {
-    if state.len() != 64 {
-        return 2;
+    if state.len() != SIZE {
+        return WRONG_SIZE;
     }
     let t = table::TABLE;
     let b = back::BACK;
@@ -271,11 +276,11 @@ pub fn permute_back(state: &mut [u8]) -> u8
 pub fn round_back(state: &mut [u8], key: &[u8]) -> u8
     ensures { λ r. ⌜ Rounded round⁻ (now (key .entry)) (now (state .entry)) r (now (state .exit)) ⌝ }
 {
-    if state.len() != 64 {
-        return 2;
+    if state.len() != SIZE {
+        return WRONG_SIZE;
     }
-    if key.len() != 64 {
-        return 2;
+    if key.len() != SIZE {
+        return WRONG_SIZE;
     }
     let b = back::BACK;
     add_key(state, key);

@@ -36,7 +36,15 @@ returns : tie.Need-returns
 unfolding xor
 returns c =
     let x = c .before .before .before .before .before .before .before .args in
-    rw (c .double7 .ensures, c .before .double6 .ensures, c .before .before .double5 .ensures, c .before .before .before .double4 .ensures, c .before .before .before .before .double3 .ensures, c .before .before .before .before .before .double2 .ensures, c .before .before .before .before .before .before .double .ensures)
+    rw (
+      c .double7 .ensures,
+      c .before .double6 .ensures,
+      c .before .before .double5 .ensures,
+      c .before .before .before .double4 .ensures,
+      c .before .before .before .before .double3 .ensures,
+      c .before .before .before .before .before .double2 .ensures,
+      c .before .before .before .before .before .before .double .ensures,
+    )
     (seven (x .a) (x .b) (x .c) (x .d) (x .e) (x .f) (x .g) (x .h) ∙ column-by-bits first⁻ _ 7)
 
 pub cell-back-spec : {M : Type 1} → statement M
