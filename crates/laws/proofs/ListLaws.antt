@@ -1,7 +1,7 @@
 -- Lists that are built by their rule: what stands at each place, when two are equal, and a loop that writes one from the front.
 -- Assumes nothing.
-use mathlib.Core.Path.{_≡_, refl, sym, ap, _∙_}
-use mathlib.Core.List.{List, [], _∷_, _++_, append-nil}
+use mathlib.Core.Path.{_≡_, refl, sym, ap, ap₂, _∙_}
+use mathlib.Core.List.{List, [], _∷_, _++_, append-assoc, append-nil}
 use mathlib.Core.Logic.{⊎-elim}
 use Prim.Native.Nat.{ℕ, zero, suc, _+_, _-_, _≤_, _<_}
 use native.Mathlib.Nat.{add-zero, zero-add, add-suc, suc-add, le-of-suc-le-suc, not-suc-le-zero}
@@ -27,6 +27,17 @@ pub listed-snoc : (i n : ℕ) (f : ℕ → ℕ) → listed i (suc n) f ≡ liste
 unfolding listed
 listed-snoc i zero f = ap (λ (k : ℕ). f k ∷ []) (sym (add-zero i))
 listed-snoc i (suc n) f = ap (λ (l : List ℕ). f i ∷ l) (listed-snoc (suc i) n f ∙ ap (λ (k : ℕ). listed (suc i) n f ++ (f k ∷ [])) (suc-add i n ∙ sym (add-suc i n)))
+
+-- n elements behind i, by a rule of their own that agrees
+pub listed-join : (i n : ℕ) (f g : ℕ → ℕ) → ((j : ℕ) → j < n → g j ≡ f (i + j)) → listed 0 (i + n) f ≡ listed 0 i f ++ listed 0 n g
+unfolding listed
+listed-join i zero f g same = ap (λ (k : ℕ). listed 0 k f) (add-zero i) ∙ sym (append-nil (listed 0 i f))
+listed-join i (suc n) f g same =
+    ap (λ (k : ℕ). listed 0 k f) (add-suc i n) ∙ listed-snoc 0 (i + n) f
+    ∙ ap₂ (λ (l : List ℕ) (x : ℕ). l ++ (x ∷ [])) (listed-join i n f g (λ j h. same j (omega arith)))
+    (ap f (zero-add (i + n)) ∙ sym (same n (omega arith)) ∙ ap g (sym (zero-add n)))
+    ∙ append-assoc (listed 0 i f) (listed 0 n g) (g (0 + n) ∷ [])
+    ∙ ap (λ (l : List ℕ). listed 0 i f ++ l) (sym (listed-snoc 0 n g))
 
 -- the place counted from 0
 pub listed-seen : (n : ℕ) (f : ℕ → ℕ) (k : ℕ) → k < n → getD (listed 0 n f) k 0 ≡ f k

@@ -9,7 +9,8 @@ use lib.ListN.{length, take, drop, length-append, length-take, length-drop, take
 use lib.ListN.{set, getD}
 use native.Mathlib.Numerals.{add-one}
 use lib.Seq.{set-at, drop-cons, take-at, drop-at, drop-drop, take-all, length-take-le}
-use Rattle.laws.specs.Lists.{splice}
+use Rattle.laws.specs.Lists.{listed, front, splice}
+use Rattle.laws.proofs.ListLaws.{listed-length, listed-join}
 
 pub splice-nil : (l : List ℕ) (at : ℕ) → splice l at [] ≡ l
 unfolding splice
@@ -94,3 +95,12 @@ splice-whole l b e =
 pub splice-mid : (l : List ℕ) (at k : ℕ) (b : List ℕ) → length b ≡ k → take at l ++ (b ++ drop k (drop at l)) ≡ splice l at b
 unfolding splice
 splice-mid l at k b e = rw (drop-drop, ← e)
+
+-- n elements by the rule, laid behind the first i
+pub front-lay : (n i : ℕ) (f g : ℕ → ℕ) (s t : List ℕ) → t ≡ front i f s → ((j : ℕ) → j < n → g j ≡ f (i + j))
+    → splice t i (listed 0 n g) ≡ front (i + n) f s
+unfolding splice front
+front-lay n i f g s t e same =
+    rw (e, take-at (listed 0 i f) (drop i s) i (listed-length 0 i f), listed-length 0 n g)
+    (rw (← drop-drop n i (listed 0 i f ++ drop i s), drop-at (listed 0 i f) (drop i s) i (listed-length 0 i f), drop-drop n i s, listed-join i n f g same)
+    (sym (append-assoc (listed 0 i f) (listed 0 n g) (drop (i + n) s))))

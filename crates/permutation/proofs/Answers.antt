@@ -1,14 +1,13 @@
 -- The two answers of a call, and one round more.
 -- Assumes nothing.
-use mathlib.Core.Path.{_≡_, refl, sym, ap, _∙_}
+use mathlib.Core.Path.{_≡_, sym, ap, _∙_}
 use mathlib.Core.List.{List}
 use Prim.Native.Nat.{ℕ, suc, _+_, _-_, _<_}
 use native.Mathlib.Omega.{arith}
 use native.Mathlib.Numerals.{add-one}
 use borrow.Author.Tests.{ne-eqb, eq-eqb}
 use lib.ListN.{length}
-use Rattle.laws.specs.Choose.{pick}
-use Rattle.permutation.specs.Permutation.{constant, round, rounds, π, round⁻, rounds⁻, π⁻, whole, Permuted}
+use Rattle.permutation.specs.Permutation.{constant, round, rounds, π, round⁻, rounds⁻, π⁻, whole, Permuted, Rounded}
 
 pub refused : (by : List ℕ → List ℕ) (s : List ℕ) → (length s ≡ 64 → ⊥) → Permuted by s 2 s
 unfolding whole
@@ -17,6 +16,21 @@ refused by s h = record { code = rw (ne-eqb (length s) 64 h); state = rw (ne-eqb
 pub done : (by : List ℕ → List ℕ) (s t : List ℕ) → length s ≡ 64 → t ≡ by s → Permuted by s 0 t
 unfolding whole
 done by s t h e = record { code = rw (eq-eqb (length s) 64 h); state = rw (eq-eqb (length s) 64 h) e }
+
+-- the same with a key of the caller's, where the state or the key does not fit, and where both do
+pub no-state : (by : List ℕ → List ℕ → List ℕ) (key s : List ℕ) → (length s ≡ 64 → ⊥) → Rounded by key s 2 s
+unfolding whole
+no-state by key s h = record { code = rw (ne-eqb (length s) 64 h); state = rw (ne-eqb (length s) 64 h) }
+
+pub no-key : (by : List ℕ → List ℕ → List ℕ) (key s : List ℕ) → (length key ≡ 64 → ⊥) → length s ≡ 64 → Rounded by key s 2 s
+unfolding whole
+no-key by key s h e =
+    record { code = rw (eq-eqb (length s) 64 e, ne-eqb (length key) 64 h); state = rw (eq-eqb (length s) 64 e, ne-eqb (length key) 64 h) }
+
+pub keyed : (by : List ℕ → List ℕ → List ℕ) (key s t : List ℕ) → length s ≡ 64 → length key ≡ 64 → t ≡ by key s → Rounded by key s 0 t
+unfolding whole
+keyed by key s t e h g =
+    record { code = rw (eq-eqb (length s) 64 e, eq-eqb (length key) 64 h); state = rw (eq-eqb (length s) 64 e, eq-eqb (length key) 64 h) g }
 
 pub rounds-more : (r : ℕ) (s t u : List ℕ) → t ≡ rounds r s → u ≡ round (constant r) t → u ≡ rounds (r + 1) s
 unfolding rounds

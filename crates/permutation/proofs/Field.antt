@@ -1,14 +1,14 @@
 -- Doubling adds up.
 -- Assumes nothing.
 use mathlib.Core.Path.{_≡_, refl, sym, ap, ap₂, _∙_}
-use Prim.Native.Nat.{ℕ, zero, suc, _*_, _/_, _%_, _<_}
+use Prim.Native.Nat.{ℕ, _*_, _/_, _%_, _<_}
 use native.Mathlib.Nat.{add-zero}
 use lib.Dec.{lit<}
 use lib.Bits.{bitXor, xor-shr, xor-mod, xor-block, xor-self, xor-zero-r}
 use Rattle.laws.specs.Xor.{xor}
 use Rattle.laws.proofs.OrderLaws.{below2}
-use Rattle.laws.proofs.XorLaws.{ac, low, xor-assoc, xor-swap, xor-left}
-use Rattle.permutation.specs.Field.{only, double, timesBits, times}
+use Rattle.laws.proofs.XorLaws.{ac, low}
+use Rattle.permutation.specs.Field.{only, double}
 
 -- ---- doubling adds up
 twice : (x y : ℕ) → bitXor x y * 2 ≡ bitXor (x * 2) (y * 2)

@@ -1,10 +1,15 @@
+-- What is true of the definitions of specs/, and the proof of each function below.
 pub mod Build
 pub mod Field
-pub mod Mixing
-pub mod Answers
-pub mod Tables
 pub mod Products
 pub mod Sums
-pub mod Laws
-pub mod Cases
+pub mod Mixing
+pub mod Tables
+pub mod StateLaws
+pub mod SubstituteLaws
+pub mod ShiftLaws
+pub mod MixLaws
+pub mod RoundLaws
 pub mod Trip
+pub mod Answers
+pub mod Unique

@@ -2,14 +2,13 @@
 -- Assumes nothing.
 use mathlib.Core.Path.{_≡_, refl, sym, ap, ap₂, subst, _∙_}
 use mathlib.Core.Bool.{Bool}
-use Prim.Native.Nat.{ℕ, zero, suc, _+_, _*_, _/_, _%_, _<_}
+use Prim.Native.Nat.{ℕ, zero, suc, _*_, _/_, _%_, _<_}
 use native.Mathlib.Nat.{mod-lt}
-use lib.Dec.{T, lit<, eqb, eqb→eq}
-use lib.ListN.{getD}
-use lib.Bits.{bitXor, xor-shr, xor-mod, xor-lt}
-use Rattle.laws.specs.Xor.{xor, xorAll}
+use lib.Dec.{lit<, eqb, eqb→eq}
+use lib.Bits.{bitXor, xor-shr, xor-mod}
+use Rattle.laws.specs.Xor.{xor}
 use Rattle.laws.proofs.TableLaws.{at}
-use Rattle.laws.proofs.XorLaws.{xor-byte, low, ac, xor-assoc, xor-zero, zero-xor}
+use Rattle.laws.proofs.XorLaws.{xor-byte, low, ac, xor-zero, zero-xor}
 use Rattle.permutation.specs.Table.{table}
 use Rattle.permutation.specs.Field.{only, double, timesBits, times}
 use Rattle.permutation.proofs.Field.{only-xor, double-xor}
@@ -56,7 +55,7 @@ unfolding only
 none zero = refl
 none (suc b) = refl
 
-double-zero : double 0 ≡ 0
+pub double-zero : double 0 ≡ 0
 unfolding double only xor
 double-zero = refl
 
@@ -72,6 +71,10 @@ times-zero c = bits-zero 8 c
 pub zero-times : (x : ℕ) → times 0 x ≡ 0
 unfolding times timesBits only
 zero-times x = simp zero-xor
+
+pub one-times : (x : ℕ) → times 1 x ≡ x
+unfolding times timesBits only
+one-times x = simp xor-zero
 
 -- ---- what adds up and holds of the eight bits holds of every byte
 bitsOf : ℕ → ℕ
@@ -152,7 +155,7 @@ unfolding only double xor
 chosen zero x = refl
 chosen (suc b) x = refl
 
-double-bits : (n c x : ℕ) → double (timesBits n c x) ≡ timesBits n c (double x)
+pub double-bits : (n c x : ℕ) → double (timesBits n c x) ≡ timesBits n c (double x)
 unfolding timesBits
 double-bits zero c x = double-zero
 double-bits (suc n) c x =

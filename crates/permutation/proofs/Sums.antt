@@ -1,10 +1,8 @@
 -- Sums by xor, through a product.
 -- Assumes nothing.
-use mathlib.Core.Path.{_≡_, refl, sym, ap, ap₂, _∙_}
-use Prim.Native.Nat.{ℕ, zero, suc, _<_, suc-le-suc, zero-le}
-use lib.Dec.{lit<}
+use mathlib.Core.Path.{_≡_, ap, _∙_}
+use Prim.Native.Nat.{ℕ, zero, suc}
 use Rattle.laws.specs.Xor.{xor, xorAll}
-use Rattle.laws.proofs.XorLaws.{ac, xor-zero, zero-xor, xor-byte}
 use Rattle.permutation.specs.Field.{times}
 use Rattle.permutation.proofs.Products.{times-sum, times-in, times-zero, zero-times}
 

@@ -1,13 +1,12 @@
 -- The rules of the tables, each one computed test over all entries.
 -- Assumes nothing.
-use mathlib.Core.Path.{_≡_, refl, sym, ap, ap₂, _∙_, subst}
+use mathlib.Core.Path.{_≡_, ap, _∙_}
 use mathlib.Core.Bool.{Bool}
-use mathlib.Core.List.{List}
 use Prim.Native.Nat.{ℕ, _+_, _*_, _/_, _%_, _<_}
 use native.Mathlib.Nat.{mod-eq-of-lt}
 use native.Mathlib.Omega.{arith}
-use lib.Dec.{T, eqb, ltb, eqb→eq, ltb→lt}
-use lib.ListN.{length, getD}
+use lib.Dec.{eqb, ltb, eqb→eq, ltb→lt}
+use lib.ListN.{getD}
 use lib.Bits.{bitOr, or-shifted}
 use Rattle.laws.specs.Xor.{xor}
 use Rattle.laws.proofs.TableLaws.{at}
@@ -41,7 +40,7 @@ boxed x h = eqb→eq (getD table x 0) (miniboxed x) (at as-boxed table tt x h)
 pub joins : (a b : ℕ) → a < 16 → b < 16 → bitOr (a * 16 % 256) b ≡ a * 16 + b
 joins a b ha hb = ap (λ (n : ℕ). bitOr n b) (let h : a * 16 < 256 = omega arith in mod-eq-of-lt h) ∙ or-shifted a 4 b hb
 
--- ---- the two tables undo each other, and their entries are bytes
+-- ---- the two tables undo each other
 undone : ℕ → ℕ → Bool
 undone k x = eqb (S⁻ x) k
 
@@ -55,17 +54,6 @@ redone k x = eqb (S x) k
 pub S-S⁻ : (x : ℕ) → x < 256 → S (S⁻ x) ≡ x
 unfolding S S⁻ table backTable redone
 S-S⁻ x h = eqb→eq (S (getD backTable x 0)) x (at redone backTable tt x h)
-
-byte : ℕ → ℕ → Bool
-byte k x = ltb x 256
-
-pub S-byte : (x : ℕ) → x < 256 → S x < 256
-unfolding S table byte
-S-byte x h = ltb→lt (getD table x 0) 256 (at byte table tt x h)
-
-pub S⁻-byte : (x : ℕ) → x < 256 → S⁻ x < 256
-unfolding S⁻ backTable byte
-S⁻-byte x h = ltb→lt (getD backTable x 0) 256 (at byte backTable tt x h)
 
 -- what the code finds step by step is what the miniboxes make of x
 pub pieces : (x lo u v w a b : ℕ) → lo ≡ x % 16 → u ≡ getD E (x / 16) 0 → v ≡ getD E⁻ lo 0 → w ≡ getD R (xor u v) 0

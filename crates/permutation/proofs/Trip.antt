@@ -1,15 +1,14 @@
 -- A call and the call that undoes it leave the state as it was, whatever it is.
 -- Assumes nothing.
-use mathlib.Core.Path.{_≡_, refl, sym, ap, _∙_}
+use mathlib.Core.Path.{_≡_, refl, ap, _∙_}
 use mathlib.Core.Bool.{Bool, true, false}
 use mathlib.Core.List.{List}
 use Prim.Native.Nat.{ℕ, _<_}
 use borrow.Author.Tests.{eqb-true, eq-eqb}
-use lib.Dec.{eqb}
 use lib.ListN.{length, getD}
-use Rattle.laws.specs.Choose.{pick}
 use Rattle.permutation.specs.Permutation.{π, π⁻, whole, Permuted}
-use Rattle.permutation.proofs.Laws.{Whole, π-whole, π⁻-π}
+use Rattle.permutation.proofs.StateLaws.{Whole}
+use Rattle.permutation.proofs.RoundLaws.{π-whole, π⁻-π}
 
 pub trip : (s t u : List ℕ) (r r′ : ℕ) → ((k : ℕ) → getD s k 0 < 256) → Permuted π s r t → Permuted π⁻ t r′ u → u ≡ s
 unfolding whole

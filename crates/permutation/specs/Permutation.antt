@@ -45,6 +45,16 @@ mixWith m s = state (λ k. xorAll 8 (λ i. times (turned m i (k % 8)) (getD s (k
 unfoldable pub mix : List ℕ → List ℕ
 mix s = mixWith first s
 
+-- a row of eight bytes by place: given one by one, or the one that begins at b in s; and column j of its product
+unfoldable pub eight : ℕ → ℕ → ℕ → ℕ → ℕ → ℕ → ℕ → ℕ → ℕ → ℕ
+eight a b c d e f g h i = getD (a ∷ b ∷ c ∷ d ∷ e ∷ f ∷ g ∷ h ∷ []) i 0
+
+unfoldable pub rowAt : List ℕ → ℕ → ℕ → ℕ
+rowAt s b i = getD s (b + i) 0
+
+unfoldable pub column : List ℕ → (ℕ → ℕ) → ℕ → ℕ
+column m x j = xorAll 8 (λ i. times (turned m i j) (x i))
+
 -- ---- a round: substitute, shift, mix, then a key of 64 bytes by xor
 unfoldable pub scramble : List ℕ → List ℕ
 scramble s = mix (shift (substitute s))

@@ -1,18 +1,17 @@
 -- `permutation::add_constants` meets its contract. The invariant of its loop: the first k bytes have their constants.
 -- Assumes nothing.
-use mathlib.Core.Path.{_≡_, sym, ap, ap₂, _∙_}
+use mathlib.Core.Path.{_≡_, sym, ap₂, _∙_}
 use mathlib.Core.List.{List}
 use Prim.Native.Nat.{ℕ, _+_, _-_, _*_, _≤_, _<_}
 use native.Mathlib.Omega.{arith}
 use borrow.Author.Needs.{needs}
-use borrow.Author.Tests.{lt-ltb, le-ltb}
+use borrow.Author.Tests.{lt-ltb}
 use lib.ListN.{length, getD, length-set}
-use Rattle.laws.specs.Choose.{pick}
 use Rattle.laws.specs.Lists.{front}
 use Rattle.laws.specs.Xor.{xor}
 use Rattle.laws.proofs.ListLaws.{front-none, front-seen, front-more}
 use Rattle.laws.proofs.XorLaws.{xor-zero}
-use Rattle.permutation.proofs.Laws.{other-rows}
+use Rattle.permutation.proofs.RoundLaws.{other-rows}
 use Rattle.permutation.specs.Table.{S}
 use Rattle.permutation.specs.Permutation.{added, constant}
 use Rattle.permutation.proofs.Build.{state-at, state-rest}

@@ -1,7 +1,9 @@
 -- `permutation::cell` meets its contract: doubling adds up, so three doublings serve all eight bytes.
 -- Assumes nothing.
+use mathlib.Core.Path.{_∙_}
 use Rattle.laws.specs.Xor.{xor}
-use Rattle.permutation.proofs.Mixing.{cellOf, cell-is}
+use Rattle.permutation.specs.Permutation.{first}
+use Rattle.permutation.proofs.Mixing.{three, column-by-bits}
 use borrow.Author.Needs.{needs}
 use Rattle.permutation.proofs.cell.Statement.{statement}
 use Rattle.permutation.proofs.cell.Tie as tie
@@ -19,10 +21,10 @@ double-requires-3 : tie.Need-double-requires-3
 double-requires-3 c κs = search needs
 
 returns : tie.Need-returns
-unfolding xor cellOf
+unfolding xor
 returns c =
     let x = c .before .before .before .args in
-    rw (c .double3 .ensures, c .before .double2 .ensures, c .before .before .double .ensures) (cell-is (x .a) (x .b) (x .c) (x .d) (x .e) (x .f) (x .g) (x .h))
+    rw (c .double3 .ensures, c .before .double2 .ensures, c .before .before .double .ensures) (three (x .a) (x .b) (x .c) (x .d) (x .e) (x .f) (x .g) (x .h) ∙ column-by-bits first _ 7)
 
 pub cell-spec : {M : Type 1} → statement M
 cell-spec = tie.close (tie.spec double-requires double-requires-2 double-requires-3 returns)

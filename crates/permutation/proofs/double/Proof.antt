@@ -2,7 +2,7 @@
 -- Assumes nothing.
 use mathlib.Core.Path.{_≡_}
 use native.Mathlib.Omega.{arith}
-use Prim.Native.Nat.{ℕ, _/_, _%_, _*_}
+use Prim.Native.Nat.{_/_, _%_}
 use lib.Bits.{xor-zero-r}
 use Rattle.laws.specs.Xor.{xor}
 use Rattle.permutation.specs.Field.{double, only}

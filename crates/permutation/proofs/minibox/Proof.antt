@@ -1,6 +1,6 @@
 -- `permutation::minibox` meets its contract: the miniboxes make Table 1.1.
 -- Assumes nothing.
-use mathlib.Core.Path.{_≡_, sym, _∙_}
+use mathlib.Core.Path.{sym, _∙_}
 use native.Mathlib.Omega.{arith}
 use borrow.Author.Needs.{needs}
 use lib.Bits.{and-mask, mask-lt, xor-lt}

@@ -1,42 +1,37 @@
--- `permutation::round` meets its contract: its four steps, one after the other.
+-- `permutation::round` meets its contract: the two refusals, then its two steps.
 -- Assumes nothing.
+use mathlib.Core.Path.{refl}
+use Rattle.permutation.specs.Table.{table}
+use Rattle.permutation.specs.Permutation.{round}
+use Rattle.permutation.proofs.Answers.{no-state, no-key, keyed}
 use borrow.Author.Needs.{needs}
-use Rattle.permutation.specs.Permutation.{round, scramble}
 use Rattle.permutation.proofs.round.Statement.{statement}
 use Rattle.permutation.proofs.round.Tie as tie
 use Rattle.permutation.proofs.round.Reads as reads
 use Rattle.permutation.proofs.round.Lts as lts
-use Rattle.permutation.proofs.add_constants.Reads as add-constants-reads
-use Rattle.permutation.proofs.mix.Reads as mix-reads
-use Rattle.permutation.proofs.shifted.Reads as shifted-reads
-use Rattle.permutation.proofs.substitute.Reads as substitute-reads
+use Rattle.permutation.proofs.add_key.Reads as add-key-reads
+use Rattle.permutation.proofs.scramble.Reads as scramble-reads
 
-substitute-requires : tie.Need-substitute-requires
-substitute-requires c κs = search needs
+returns : tie.Need-returns
+returns c = no-state _ _ _ (c .if1 .taken)
 
-shifted-requires : tie.Need-shifted-requires
-shifted-requires c κs = search needs
+returns-2 : tie.Need-returns-2
+returns-2 c = no-key _ _ _ (c .if2 .taken) (c .before .if1 .left)
 
-mix-requires : tie.Need-mix-requires
-mix-requires c κs = search needs
+scramble-requires : tie.Need-scramble-requires
+unfolding table
+scramble-requires c κs = (refl, c .before .before .before .if1 .left)
 
-add-constants-requires : tie.Need-add-constants-requires
-add-constants-requires c κs = search needs
+add-key-requires : tie.Need-add-key-requires
+add-key-requires c κs = search needs
 
 same-length : tie.Need-same-length
 same-length c = search needs
 
-returns : tie.Need-returns
-unfolding round scramble
-returns c = cc
+returns-3 : tie.Need-returns-3
+unfolding round
+returns-3 c = keyed _ _ _ _ (c .before .before .before .before .before .before .before .before .before .before .if1 .left) (c .before .before .before .before .before .before .before .before .before .if2 .left) (cc)
 
 pub round-spec : {M : Type 1} → statement M
 round-spec =
-    tie.close
-    (tie.spec
-    substitute-requires
-    shifted-requires
-    mix-requires
-    add-constants-requires
-    same-length
-    returns)
+    tie.close (tie.spec returns returns-2 scramble-requires add-key-requires same-length returns-3)

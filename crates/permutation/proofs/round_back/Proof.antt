@@ -1,42 +1,38 @@
--- `permutation::round_back` meets its contract: its four steps, one after the other.
+-- `permutation::round_back` meets its contract: the two refusals, then its two steps.
 -- Assumes nothing.
+use mathlib.Core.Path.{refl, _∙_}
+use Rattle.permutation.specs.Table.{backTable}
+use Rattle.permutation.specs.Permutation.{round⁻}
+use Rattle.permutation.proofs.Answers.{no-state, no-key, keyed}
 use borrow.Author.Needs.{needs}
-use Rattle.permutation.specs.Permutation.{round⁻, scramble⁻}
 use Rattle.permutation.proofs.round_back.Statement.{statement}
 use Rattle.permutation.proofs.round_back.Tie as tie
 use Rattle.permutation.proofs.round_back.Reads as reads
 use Rattle.permutation.proofs.round_back.Lts as lts
-use Rattle.permutation.proofs.add_constants.Reads as add-constants-reads
-use Rattle.permutation.proofs.mixed_back.Reads as mixed-back-reads
-use Rattle.permutation.proofs.shift_back.Reads as shift-back-reads
-use Rattle.permutation.proofs.substitute_back.Reads as substitute-back-reads
+use Rattle.permutation.proofs.add_key.Reads as add-key-reads
+use Rattle.permutation.proofs.scramble_back.Reads as scramble-back-reads
 
-add-constants-requires : tie.Need-add-constants-requires
-add-constants-requires c κs = search needs
+returns : tie.Need-returns
+returns c = no-state _ _ _ (c .if1 .taken)
 
-mixed-back-requires : tie.Need-mixed-back-requires
-mixed-back-requires c κs = search needs
+returns-2 : tie.Need-returns-2
+returns-2 c = no-key _ _ _ (c .if2 .taken) (c .before .if1 .left)
 
-shift-back-requires : tie.Need-shift-back-requires
-shift-back-requires c κs = search needs
+add-key-requires : tie.Need-add-key-requires
+add-key-requires c κs = search needs
 
-substitute-back-requires : tie.Need-substitute-back-requires
-substitute-back-requires c κs = search needs
+scramble-back-requires : tie.Need-scramble-back-requires
+unfolding backTable
+scramble-back-requires c κs = (refl, c .before .before .before .before .add-key .kept .0 ∙ c .before .before .before .before .before .before .before .if1 .left)
 
 same-length : tie.Need-same-length
 same-length c = search needs
 
-returns : tie.Need-returns
-unfolding round⁻ scramble⁻
-returns c = cc
+returns-3 : tie.Need-returns-3
+unfolding round⁻
+returns-3 c = keyed _ _ _ _ (c .before .before .before .before .before .before .before .before .before .before .if1 .left) (c .before .before .before .before .before .before .before .before .before .if2 .left) (cc)
 
 pub round-back-spec : {M : Type 1} → statement M
 round-back-spec =
     tie.close
-    (tie.spec
-    add-constants-requires
-    mixed-back-requires
-    shift-back-requires
-    substitute-back-requires
-    same-length
-    returns)
+    (tie.spec returns returns-2 add-key-requires scramble-back-requires same-length returns-3)

@@ -1,0 +1,117 @@
+-- A key, a round, the permutation: each can be undone, and undoing it can be undone, on each list of 64 bytes.
+-- Assumes nothing.
+use mathlib.Core.Path.{_≡_, refl, ap, _∙_}
+use mathlib.Core.Bool.{Bool, true, false}
+use mathlib.Core.List.{List}
+use mathlib.Core.Logic.{⊎-elim}
+use Prim.Native.Nat.{ℕ, zero, suc, _+_, _*_, _<_, _≤_}
+use native.Mathlib.Omega.{arith}
+use borrow.Author.Tests.{le-ltb}
+use lib.Dec.{lit<, ltb}
+use lib.ListN.{getD, List·getD-eq-default}
+use Rattle.laws.specs.Choose.{pick}
+use Rattle.laws.specs.Xor.{xor}
+use Rattle.laws.proofs.OrderLaws.{lt-or-ge}
+use Rattle.laws.proofs.XorLaws.{xor-undone, xor-byte}
+use Rattle.permutation.specs.Table.{S}
+use Rattle.permutation.specs.Permutation.{substitute, substitute⁻, shift, shift⁻, mix, mix⁻, scramble, scramble⁻, added, constant, round, round⁻, rounds, rounds⁻, π, π⁻}
+use Rattle.permutation.proofs.Build.{state-length, state-at, state-is}
+use Rattle.permutation.proofs.StateLaws.{Whole, state-whole}
+use Rattle.permutation.proofs.SubstituteLaws.{any-S, substitute-whole, substitute⁻-whole, substitute⁻-substitute, substitute-substitute⁻}
+use Rattle.permutation.proofs.ShiftLaws.{shift-whole, shift⁻-whole, shift⁻-shift, shift-shift⁻}
+use Rattle.permutation.proofs.MixLaws.{mix-whole, mix⁻-whole, mix⁻-mix, mix-mix⁻}
+
+-- ---- a key, added twice, is gone
+pub added-whole : (key s : List ℕ) → Whole key → Whole s → Whole (added key s)
+unfolding added
+added-whole key s wk w = state-whole _ (λ k. xor-byte (getD s k 0) (getD key k 0) (w .bytes k) (wk .bytes k))
+
+pub added-added : (key s : List ℕ) → Whole s → added key (added key s) ≡ s
+unfolding added
+added-added key s w =
+    state-is _ s (w .full)
+    (λ k h. ap (λ (n : ℕ). xor n (getD key k 0)) (state-at (λ k. xor (getD s k 0) (getD key k 0)) k h) ∙ xor-undone (getD s k 0) (getD key k 0))
+
+pub constant-whole : (r : ℕ) → Whole (constant r)
+unfolding constant
+constant-whole r = state-whole _ (λ k. either k (ltb k 8))
+  where
+    either : (k : ℕ) (b : Bool) → pick b (S (r * 8 + k)) 0 < 256
+    either k = elim [ true ↦ any-S (r * 8 + k) | false ↦ lit< tt ]
+
+-- the other rows of a round's constant are nothing, and so is what stands past them
+pub other-rows : (r k : ℕ) → 8 ≤ k → getD (constant r) k 0 ≡ 0
+unfolding constant
+other-rows r k h =
+    ⊎-elim (λ l. state-at _ k l ∙ rw (le-ltb k 8 h))
+    (λ l. List·getD-eq-default (constant r) 0 {n = k} (omega (arith, state-length (λ k. pick (ltb k 8) (S (r * 8 + k)) 0)))) (lt-or-ge k 64)
+
+-- ---- a round, and the permutation
+pub scramble-whole : (s : List ℕ) → Whole (scramble s)
+unfolding scramble
+scramble-whole s = mix-whole _ (shift-whole _ (substitute-whole s))
+
+scramble⁻-whole : (s : List ℕ) → Whole (scramble⁻ s)
+unfolding scramble⁻
+scramble⁻-whole s = substitute⁻-whole _
+
+scramble⁻-scramble : (s : List ℕ) → Whole s → scramble⁻ (scramble s) ≡ s
+unfolding scramble scramble⁻
+scramble⁻-scramble s w =
+    let w₁ = substitute-whole s in
+    ap (λ (t : List ℕ). substitute⁻ (shift⁻ t)) (mix⁻-mix (shift (substitute s)) (shift-whole (substitute s) w₁))
+    ∙ ap substitute⁻ (shift⁻-shift (substitute s) w₁)
+    ∙ substitute⁻-substitute s w
+
+scramble-scramble⁻ : (s : List ℕ) → Whole s → scramble (scramble⁻ s) ≡ s
+unfolding scramble scramble⁻
+scramble-scramble⁻ s w =
+    let w₁ = mix⁻-whole s w in
+    ap (λ (t : List ℕ). mix (shift t)) (substitute-substitute⁻ (shift⁻ (mix⁻ s)) (shift⁻-whole (mix⁻ s) w₁))
+    ∙ ap mix (shift-shift⁻ (mix⁻ s) w₁)
+    ∙ mix-mix⁻ s w
+
+pub round⁻-round : (key s : List ℕ) → Whole s → round⁻ key (round key s) ≡ s
+unfolding round round⁻
+round⁻-round key s w = ap scramble⁻ (added-added key (scramble s) (scramble-whole s)) ∙ scramble⁻-scramble s w
+
+pub round-round⁻ : (key s : List ℕ) → Whole key → Whole s → round key (round⁻ key s) ≡ s
+unfolding round round⁻
+round-round⁻ key s wk w = ap (added key) (scramble-scramble⁻ (added key s) (added-whole key s wk w)) ∙ added-added key s w
+
+pub round-whole : (key s : List ℕ) → Whole key → Whole (round key s)
+unfolding round
+round-whole key s wk = added-whole key (scramble s) wk (scramble-whole s)
+
+pub round⁻-whole : (key s : List ℕ) → Whole (round⁻ key s)
+unfolding round⁻
+round⁻-whole key s = scramble⁻-whole (added key s)
+
+rounds-whole : (n : ℕ) (s : List ℕ) → Whole s → Whole (rounds n s)
+unfolding rounds
+rounds-whole zero s w = w
+rounds-whole (suc n) s w = round-whole (constant n) (rounds n s) (constant-whole n)
+
+rounds⁻-rounds : (n : ℕ) (s : List ℕ) → Whole s → rounds⁻ n (rounds n s) ≡ s
+unfolding rounds rounds⁻
+rounds⁻-rounds zero s w = refl
+rounds⁻-rounds (suc n) s w = ap (rounds⁻ n) (round⁻-round (constant n) (rounds n s) (rounds-whole n s w)) ∙ rounds⁻-rounds n s w
+
+rounds-rounds⁻ : (n : ℕ) (s : List ℕ) → Whole s → rounds n (rounds⁻ n s) ≡ s
+unfolding rounds rounds⁻
+rounds-rounds⁻ zero s w = refl
+rounds-rounds⁻ (suc n) s w =
+    ap (round (constant n)) (rounds-rounds⁻ n (round⁻ (constant n) s) (round⁻-whole (constant n) s))
+    ∙ round-round⁻ (constant n) s (constant-whole n) w
+
+pub π-whole : (s : List ℕ) → Whole s → Whole (π s)
+unfolding π
+π-whole s w = rounds-whole 12 s w
+
+pub π⁻-π : (s : List ℕ) → Whole s → π⁻ (π s) ≡ s
+unfolding π π⁻
+π⁻-π s w = rounds⁻-rounds 12 s w
+
+pub π-π⁻ : (s : List ℕ) → Whole s → π (π⁻ s) ≡ s
+unfolding π π⁻
+π-π⁻ s w = rounds-rounds⁻ 12 s w

@@ -1,0 +1,67 @@
+-- Shift: where a byte goes, with substitution in one step, and either way undoes the other.
+-- Assumes nothing.
+use mathlib.Core.Path.{_≡_, sym, ap, _∙_}
+use mathlib.Core.Bool.{Bool}
+use mathlib.Core.List.{List}
+use Prim.Native.Nat.{ℕ, _<_}
+use native.Mathlib.Omega.{arith}
+use lib.Dec.{eqb, eqb→eq}
+use lib.ListN.{getD}
+use Rattle.laws.specs.Lists.{listed}
+use Rattle.laws.proofs.TableLaws.{at}
+use Rattle.permutation.specs.Table.{S, S⁻}
+use Rattle.permutation.specs.Permutation.{state, substitute, substitute⁻, source, target, shift, shift⁻}
+use Rattle.permutation.proofs.Build.{state-at, state-is, state-same}
+use Rattle.permutation.proofs.StateLaws.{Whole, places, state-whole}
+
+pub shift-whole : (s : List ℕ) → Whole s → Whole (shift s)
+unfolding shift
+shift-whole s w = state-whole _ (λ k. w .bytes (source k))
+
+pub shift⁻-whole : (s : List ℕ) → Whole s → Whole (shift⁻ s)
+unfolding shift⁻
+shift⁻-whole s w = state-whole _ (λ k. w .bytes (target k))
+
+target-below : (k : ℕ) → target k < 64
+unfolding target
+target-below k = omega arith
+
+source-below : (k : ℕ) → source k < 64
+unfolding source
+source-below k = omega arith
+
+-- both steps at once
+pub moved : (s : List ℕ) → state (λ k. S (getD s (source k) 0)) ≡ shift (substitute s)
+unfolding shift substitute
+moved s = state-same _ _ (λ k h. sym (state-at (λ k. S (getD s k 0)) (source k) (source-below k)))
+
+pub moved⁻ : (s : List ℕ) → state (λ k. S⁻ (getD s (target k) 0)) ≡ substitute⁻ (shift⁻ s)
+unfolding shift⁻ substitute⁻
+moved⁻ s = state-same _ _ (λ k h. ap S⁻ (sym (state-at (λ k. getD s (target k) 0) k h)))
+
+there : ℕ → ℕ → Bool
+there k x = eqb (source (target k)) k
+
+source-target : (k : ℕ) → k < 64 → source (target k) ≡ k
+unfolding there source target places listed
+source-target k h = eqb→eq (source (target k)) k (at there places tt k h)
+
+back : ℕ → ℕ → Bool
+back k x = eqb (target (source k)) k
+
+target-source : (k : ℕ) → k < 64 → target (source k) ≡ k
+unfolding back source target places listed
+target-source k h = eqb→eq (target (source k)) k (at back places tt k h)
+
+-- the paper's direction: the byte at k moves to its target
+pub shift-moves : (s : List ℕ) (k : ℕ) → k < 64 → getD (shift s) (target k) 0 ≡ getD s k 0
+unfolding shift
+shift-moves s k h = state-at (λ k. getD s (source k) 0) (target k) (target-below k) ∙ ap (λ (n : ℕ). getD s n 0) (source-target k h)
+
+pub shift⁻-shift : (s : List ℕ) → Whole s → shift⁻ (shift s) ≡ s
+unfolding shift shift⁻
+shift⁻-shift s w = state-is _ s (w .full) (λ k h. state-at (λ k. getD s (source k) 0) (target k) (target-below k) ∙ ap (λ (n : ℕ). getD s n 0) (source-target k h))
+
+pub shift-shift⁻ : (s : List ℕ) → Whole s → shift (shift⁻ s) ≡ s
+unfolding shift shift⁻
+shift-shift⁻ s w = state-is _ s (w .full) (λ k h. state-at (λ k. getD s (target k) 0) (source k) (source-below k) ∙ ap (λ (n : ℕ). getD s n 0) (target-source k h))
