@@ -6,9 +6,9 @@ use Prim.Native.Nat.{ℕ, zero, suc, _+_, _-_, _≤_, _<_}
 use native.Mathlib.Nat.{add-zero, zero-add, add-assoc}
 use native.Mathlib.Omega.{arith}
 use lib.ListN.{length, take, drop, length-append, length-take, length-drop, take-append-drop, drop-of-length-le}
-use lib.ListN.{set, getD}
+use lib.ListN.{set, getD, List·getD-append}
 use native.Mathlib.Numerals.{add-one}
-use lib.Seq.{set-at, drop-cons, take-at, drop-at, drop-drop, take-all, length-take-le}
+use lib.Seq.{getD-append-add, getD-drop, set-at, drop-cons, take-at, drop-at, drop-drop, take-all, length-take-le}
 use Rattle.laws.specs.Lists.{splice}
 
 pub splice-nil : (l : List ℕ) (at : ℕ) → splice l at [] ≡ l
@@ -94,3 +94,18 @@ splice-whole l b e =
 pub splice-mid : (l : List ℕ) (at k : ℕ) (b : List ℕ) → length b ≡ k → take at l ++ (b ++ drop k (drop at l)) ≡ splice l at b
 unfolding splice
 splice-mid l at k b e = rw (drop-drop, ← e)
+
+-- what stands at k of a list with b laid over its front
+pub splice-before : (l b : List ℕ) (k : ℕ) → k < length b → getD (splice l 0 b) k 0 ≡ getD b k 0
+unfolding splice
+splice-before l b k h = List·getD-append b (drop (0 + length b) l) 0 k h
+
+pub splice-after : (l b : List ℕ) (k : ℕ) → length b ≤ k → getD (splice l 0 b) k 0 ≡ getD l k 0
+unfolding splice
+splice-after l b k h =
+    let e₁ : k ≡ length b + (k - length b) = omega arith in
+    let e₂ : 0 + length b + (k - length b) ≡ k = omega arith in
+    ap (λ (m : ℕ). getD (b ++ drop (0 + length b) l) m 0) e₁
+    ∙ getD-append-add b (drop (0 + length b) l) (k - length b) 0
+    ∙ getD-drop (0 + length b) l (k - length b) 0
+    ∙ ap (λ (m : ℕ). getD l m 0) e₂
