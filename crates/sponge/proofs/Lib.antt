@@ -5,3 +5,6 @@ pub mod Groups
 pub mod Lengths
 pub mod Steps
 pub mod Answers
+pub mod Trips
+pub mod Bytes
+pub mod Unique
