@@ -7,8 +7,8 @@ use Prim.Native.Nat.{ℕ, zero, suc, _+_, _-_, _≤_, _<_}
 use native.Mathlib.Nat.{add-zero, zero-add, add-suc, suc-add, le-of-suc-le-suc, not-suc-le-zero}
 use native.Mathlib.Numerals.{add-one}
 use native.Mathlib.Omega.{arith}
-use lib.ListN.{length, getD, set, drop, length-append, length-drop, drop-of-length-le, List·getD-append}
-use lib.Seq.{drop-cons, set-at, getD-at, append-snoc, ext-getD, getD-append-add, getD-drop}
+use lib.ListN.{length, getD, set, take, drop, length-append, length-drop, drop-of-length-le, List·getD-append}
+use lib.Seq.{drop-cons, set-at, getD-at, append-snoc, ext-getD, getD-append-add, getD-drop, getD-take, length-take-le}
 use Rattle.laws.specs.Lists.{listed, front}
 use Rattle.laws.proofs.OrderLaws.{lt-or-ge}
 
@@ -50,6 +50,15 @@ listed-is n f s h e =
 
 pub listed-same : (n : ℕ) (f g : ℕ → ℕ) → ((k : ℕ) → k < n → f k ≡ g k) → listed 0 n f ≡ listed 0 n g
 listed-same n f g e = listed-is n f (listed 0 n g) (listed-length 0 n g) (λ k b. e k b ∙ sym (listed-seen n g k b))
+
+-- the first n of a longer one, and of any list
+pub listed-own : (n : ℕ) (s : List ℕ) → n ≤ length s → listed 0 n (λ k. getD s k 0) ≡ take n s
+listed-own n s h = listed-is n (λ k. getD s k 0) (take n s) (length-take-le n s h) (λ k b. sym (getD-take n s k 0 b))
+
+pub listed-take : (n m : ℕ) (f : ℕ → ℕ) → n ≤ m → listed 0 n f ≡ take n (listed 0 m f)
+listed-take n m f h =
+    let l : n ≤ length (listed 0 m f) = omega (arith, listed-length 0 m f) in
+    listed-same n f (λ k. getD (listed 0 m f) k 0) (λ k b. sym (listed-seen m f k (omega arith))) ∙ listed-own n (listed 0 m f) l
 
 -- ---- a loop that rewrites a list from the front: i places are written, the rest of s stands
 pub front-none : (f : ℕ → ℕ) (s : List ℕ) → s ≡ front 0 f s

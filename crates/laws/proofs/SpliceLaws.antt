@@ -6,9 +6,9 @@ use Prim.Native.Nat.{ℕ, zero, suc, _+_, _-_, _≤_, _<_}
 use native.Mathlib.Nat.{add-zero, zero-add, add-assoc}
 use native.Mathlib.Omega.{arith}
 use lib.ListN.{length, take, drop, length-append, length-take, length-drop, take-append-drop, drop-of-length-le}
-use lib.ListN.{set, getD}
+use lib.ListN.{set, getD, List·getD-append}
 use native.Mathlib.Numerals.{add-one}
-use lib.Seq.{set-at, drop-cons, take-at, drop-at, drop-drop, take-all, length-take-le}
+use lib.Seq.{getD-append-add, getD-drop, set-at, drop-cons, take-at, drop-at, drop-drop, take-all, length-take-le}
 use Rattle.laws.specs.Lists.{listed, front, splice}
 use Rattle.laws.proofs.ListLaws.{listed-length, listed-join}
 
@@ -104,3 +104,18 @@ front-lay n i f g s t e same =
     rw (e, take-at (listed 0 i f) (drop i s) i (listed-length 0 i f), listed-length 0 n g)
     (rw (← drop-drop n i (listed 0 i f ++ drop i s), drop-at (listed 0 i f) (drop i s) i (listed-length 0 i f), drop-drop n i s, listed-join i n f g same)
     (sym (append-assoc (listed 0 i f) (listed 0 n g) (drop (i + n) s))))
+
+-- what stands at k of a list with b laid over its front
+pub splice-before : (l b : List ℕ) (k : ℕ) → k < length b → getD (splice l 0 b) k 0 ≡ getD b k 0
+unfolding splice
+splice-before l b k h = List·getD-append b (drop (0 + length b) l) 0 k h
+
+pub splice-after : (l b : List ℕ) (k : ℕ) → length b ≤ k → getD (splice l 0 b) k 0 ≡ getD l k 0
+unfolding splice
+splice-after l b k h =
+    let e₁ : k ≡ length b + (k - length b) = omega arith in
+    let e₂ : 0 + length b + (k - length b) ≡ k = omega arith in
+    ap (λ (m : ℕ). getD (b ++ drop (0 + length b) l) m 0) e₁
+    ∙ getD-append-add b (drop (0 + length b) l) (k - length b) 0
+    ∙ getD-drop (0 + length b) l (k - length b) 0
+    ∙ ap (λ (m : ℕ). getD l m 0) e₂

@@ -67,6 +67,9 @@ pub ruleset ac = (xor-assoc, xor-swap, xor-left)
 pub xor-undone : (a b : ℕ) → xor (xor a b) b ≡ a
 xor-undone a b = xor-assoc a b b ∙ ap (xor a) (xor-same b) ∙ xor-zero a
 
+pub xor-back : (a b : ℕ) → xor a (xor a b) ≡ b
+xor-back a b = xor-swap a (xor a b) ∙ ap (λ (x : ℕ). xor x a) (xor-swap a b) ∙ xor-undone b a
+
 pub xor-byte : (a b : ℕ) → a < 256 → b < 256 → xor a b < 256
 unfolding xor
 xor-byte a b ha hb = xor-lt 8 a b ha hb

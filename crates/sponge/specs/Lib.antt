@@ -1,2 +1,4 @@
 -- What the four block operations of BLNK are.
 pub mod Blink
+pub mod Ways
+pub mod Cases

@@ -1,3 +1,187 @@
 // The four BLNK block operations.
 ghost use mathlib.Core.Path.{_≡_};
-ghost use Rattle.sponge.specs.Blink.{put, get, enc, dec, Put, Ran};
+ghost use Prim.Native.Nat.{_-_, _/_, _≤_, _<_};
+ghost use lib.ListN.{length, take};
+ghost use Rattle.laws.specs.Xor.{xor};
+ghost use Rattle.permutation.specs.Permutation.{π, added};
+ghost use Rattle.sponge.specs.Blink.{put, get, enc, dec, into, padded, after, out, number, Put, Ran};
+ghost use Rattle.sponge.specs.Ways.{opOf, Worked, Done};
+
+// What a group gives and leaves, for the three operations that give bytes.
+enum Way {
+    Get,
+    Enc,
+    Dec,
+}
+
+// ---- A group: at most 32 bytes against the front of the state.
+fn add(state: &mut [u8], group: &[u8])
+    requires { ⌜ (length (now state) ≡ 64) × (length (now group) ≤ 32) ⌝ }
+    ensures { λ _. ⌜ now (state .exit) ≡ added (now (group .entry)) (now (state .entry)) ⌝ }
+{
+    for k in 0..group.len() {
+        state[k] = state[k] ^ group[k];
+    }
+}
+
+fn mask(group: &mut [u8], state: &[u8])
+    requires { ⌜ (length (now state) ≡ 64) × (length (now group) ≤ 32) ⌝ }
+    ensures { λ _. ⌜ now (group .exit) ≡ take (length (now (group .entry))) (added (now (group .entry)) (now (state .entry))) ⌝ }
+{
+    for k in 0..group.len() {
+        group[k] = state[k] ^ group[k];
+    }
+}
+
+fn copy(to: &mut [u8], from: &[u8])
+    requires { ⌜ length (now to) ≤ length (now from) ⌝ }
+    ensures { λ _. ⌜ now (to .exit) ≡ take (length (now (to .entry))) (now (from .entry)) ⌝ }
+{
+    for k in 0..to.len() {
+        to[k] = from[k];
+    }
+}
+
+fn work(way: Way, state: &mut [u8], group: &mut [u8])
+    requires { ⌜ (length (now state) ≡ 64) × (length (now group) ≤ 32) ⌝ }
+    ensures { λ _. ⌜ Worked (opOf way) (now (group .entry)) (now (state .entry)) (now (state .exit)) (now (group .exit)) ⌝ }
+{
+    match way {
+        Way::Get => {
+            copy(group, state);
+        }
+        Way::Enc => {
+            add(state, group);
+            copy(group, state);
+        }
+        Way::Dec => {
+            mask(group, state);
+            add(state, group);
+        }
+    }
+}
+
+// ---- The padding, and π.
+fn mark(state: &mut [u8], i: usize, x: u8)
+    requires { ⌜ i < length (now state) ⌝ }
+    ensures { λ _. ⌜ now (state .exit) ≡ into i x (now (state .entry)) ⌝ }
+{
+    state[i] = state[i] ^ x;
+}
+
+fn between(state: &mut [u8], domain: u8)
+    requires { ⌜ length (now state) ≡ 64 ⌝ }
+    ensures { λ _. ⌜ now (state .exit) ≡ π (into 32 domain (now (state .entry))) ⌝ }
+{
+    mark(state, 32, domain);
+    permutation::permute(state);
+}
+
+fn close(state: &mut [u8], n: usize, domain: u8)
+    requires { ⌜ (length (now state) ≡ 64) × (n ≤ 32) ⌝ }
+    ensures { λ _. ⌜ now (state .exit) ≡ π (into 32 (xor 0x02 domain) (into n 0x01 (now (state .entry)))) ⌝ }
+{
+    mark(state, n, 0x01);
+    mark(state, 32, 0x02 ^ domain);
+    permutation::permute(state);
+}
+
+// ---- The groups, one after another; behind each but the last stands another.
+fn last(n: usize) -> usize
+    ensures { λ r. ⌜ r ≡ (n - 1) / 32 ⌝ }
+{
+    if n == 0 { 0 } else { (n - 1) / 32 }
+}
+
+fn absorb(state: &mut [u8], bytes: &[u8], domain: u8)
+    requires { ⌜ (length (now state) ≡ 64) × (length (now bytes) ≤ 65536) ⌝ }
+    ensures { λ _. ⌜ now (state .exit) ≡ after put domain (now (state .entry)) (now (bytes .entry)) ⌝ }
+{
+    let n = bytes.len();
+    let m = last(n);
+    for k in 0..m {
+        let at = k * 32;
+        add(state, &bytes[at..at + 32]);
+        between(state, domain);
+    }
+    let at = m * 32;
+    add(state, &bytes[at..]);
+    close(state, n - at, domain);
+}
+
+// In place over io.
+fn run(way: Way, state: &mut [u8], io: &mut [u8], domain: u8)
+    requires { ⌜ (length (now state) ≡ 64) × (length (now io) ≤ 65536) ⌝ }
+    ensures { λ _. ⌜ Done (opOf way) domain (now (io .entry)) (now (state .entry)) (now (state .exit)) (now (io .exit)) ⌝ }
+{
+    let n = io.len();
+    let m = last(n);
+    for k in 0..m {
+        let at = k * 32;
+        work(way, state, &mut io[at..at + 32]);
+        between(state, domain);
+    }
+    let at = m * 32;
+    work(way, state, &mut io[at..]);
+    close(state, n - at, domain);
+}
+
+// ---- The calls.
+fn number(state: &[u8], bytes: &[u8], out: &[u8]) -> u8
+    ensures { λ r. ⌜ r ≡ number (now (state .entry)) (now (bytes .entry)) (now (out .entry)) ⌝ }
+{
+    if state.len() != 64 {
+        return 2;
+    }
+    if out.len() != bytes.len() {
+        return 2;
+    }
+    if bytes.len() <= 65536 { 0 } else { 9 }
+}
+
+pub fn put(state: &mut [u8], bytes: &[u8], domain: u8) -> u8
+    ensures { λ r. ⌜ Put domain (now (bytes .entry)) (now (state .entry)) r (now (state .exit)) ⌝ }
+{
+    let no = number(state, bytes, bytes);
+    if no != 0 {
+        return no;
+    }
+    absorb(state, bytes, domain);
+    0
+}
+
+pub fn get(state: &mut [u8], out: &mut [u8], domain: u8) -> u8
+    ensures { λ r. ⌜ Ran get domain (now (out .entry)) (now (state .entry)) (now (out .entry)) r (now (state .exit)) (now (out .exit)) ⌝ }
+{
+    let no = number(state, out, out);
+    if no != 0 {
+        return no;
+    }
+    run(Way::Get, state, out, domain);
+    0
+}
+
+// enc and dec: the bytes are copied, then worked on in place.
+fn through(way: Way, state: &mut [u8], bytes: &[u8], out: &mut [u8], domain: u8) -> u8
+    ensures { λ r. ⌜ Ran (opOf way) domain (now (bytes .entry)) (now (state .entry)) (now (out .entry)) r (now (state .exit)) (now (out .exit)) ⌝ }
+{
+    let no = number(state, bytes, out);
+    if no != 0 {
+        return no;
+    }
+    copy(out, bytes);
+    run(way, state, out, domain);
+    0
+}
+
+pub fn enc(state: &mut [u8], message: &[u8], out: &mut [u8], domain: u8) -> u8
+    ensures { λ r. ⌜ Ran enc domain (now (message .entry)) (now (state .entry)) (now (out .entry)) r (now (state .exit)) (now (out .exit)) ⌝ }
+{
+    through(Way::Enc, state, message, out, domain)
+}
+
+pub fn dec(state: &mut [u8], cipher: &[u8], out: &mut [u8], domain: u8) -> u8
+    ensures { λ r. ⌜ Ran dec domain (now (cipher .entry)) (now (state .entry)) (now (out .entry)) r (now (state .exit)) (now (out .exit)) ⌝ }
+{
+    through(Way::Dec, state, cipher, out, domain)
+}

@@ -1,0 +1,57 @@
+-- One group against the front of the state: what is masked twice stands again.
+-- Assumes nothing.
+use mathlib.Core.Path.{_≡_, refl, sym, ap, _∙_}
+use mathlib.Core.List.{List}
+use mathlib.Core.Logic.{⊎-elim}
+use Prim.Native.Nat.{ℕ, _≤_, _<_}
+use native.Mathlib.Omega.{arith}
+use lib.ListN.{length, getD, take, List·getD-eq-default}
+use lib.Seq.{length-take-le, getD-take}
+use Rattle.laws.specs.Lists.{listed, splice}
+use Rattle.laws.specs.Xor.{xor}
+use Rattle.laws.proofs.ListLaws.{listed-take}
+use Rattle.laws.proofs.OrderLaws.{lt-or-ge}
+use Rattle.laws.proofs.SpliceLaws.{length-splice, take-splice, splice-before, splice-after}
+use Rattle.laws.proofs.XorLaws.{xor-zero, xor-back}
+use Rattle.permutation.specs.Permutation.{state, added}
+use Rattle.permutation.proofs.Build.{state-length, state-at, state-is}
+
+pub added-length : (g v : List ℕ) → length (added g v) ≡ 64
+unfolding added
+added-length g v = state-length _
+
+-- past the group's end the state stands
+pub added-past : (g v : List ℕ) (k : ℕ) → length g ≤ k → xor (getD v k 0) (getD g k 0) ≡ getD v k 0
+added-past g v k h = ap (xor (getD v k 0)) (List·getD-eq-default g 0 {n = k} h) ∙ xor-zero (getD v k 0)
+
+module _ (g v : List ℕ) (small : length g ≤ 64) where
+  pub masked-length : length (take (length g) (added g v)) ≡ length g
+  masked-length = length-take-le (length g) (added g v) (omega (arith, added-length g v))
+
+  masked-at : (k : ℕ) → k < length g → getD (take (length g) (added g v)) k 0 ≡ xor (getD v k 0) (getD g k 0)
+  unfolding added
+  masked-at k h = getD-take (length g) (added g v) k 0 h ∙ state-at _ k (omega arith)
+
+  -- the rule of a loop that masks a group
+  pub masked-rule : listed 0 (length g) (λ k. xor (getD v k 0) (getD g k 0)) ≡ take (length g) (added g v)
+  unfolding added state
+  masked-rule = listed-take (length g) 64 _ small
+
+  pub added-masked : length v ≡ 64 → added (take (length g) (added g v)) v ≡ splice v 0 g
+  unfolding added
+  added-masked full =
+      state-is _ (splice v 0 g) (length-splice v 0 g (omega arith) ∙ full)
+      (λ k h. ⊎-elim
+      (λ l. ap (xor (getD v k 0)) (masked-at k l) ∙ xor-back (getD v k 0) (getD g k 0) ∙ sym (splice-before v g k l))
+      (λ l. added-past (take (length g) (added g v)) v k (omega (arith, masked-length)) ∙ sym (splice-after v g k l))
+      (lt-or-ge k (length g)))
+
+  pub masked-masked : length v ≡ 64 → take (length (take (length g) (added g v))) (added (take (length g) (added g v)) v) ≡ g
+  masked-masked full =
+      ap (take (length (take (length g) (added g v)))) (added-masked full) ∙ take-splice v (length (take (length g) (added g v))) g (sym masked-length)
+
+-- the masked group laid over the state
+pub splice-masked : (g v : List ℕ) → length g ≤ 64 → length v ≡ 64 → splice v 0 (take (length g) (added g v)) ≡ added g v
+splice-masked g v small full =
+    sym (added-masked (take (length g) (added g v)) v (omega (arith, masked-length g v small)) full)
+    ∙ ap (λ (t : List ℕ). added t v) (masked-masked g v small full)

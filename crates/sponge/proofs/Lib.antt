@@ -1,0 +1,10 @@
+-- What is true of the block operations.
+pub mod Rules
+pub mod Turned
+pub mod Groups
+pub mod Lengths
+pub mod Steps
+pub mod Answers
+pub mod Trips
+pub mod Bytes
+pub mod Unique

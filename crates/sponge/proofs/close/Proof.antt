@@ -1,0 +1,38 @@
+-- `sponge::close` meets its contract: the closing padding, then π of a state that has 64 bytes.
+-- Assumes nothing.
+use mathlib.Core.Path.{_≡_, ap, _∙_}
+use native.Mathlib.Omega.{arith}
+use borrow.Author.Needs.{needs}
+use lib.ListN.{length}
+use Rattle.laws.specs.Xor.{xor}
+use Rattle.permutation.specs.Permutation.{π}
+use Rattle.sponge.specs.Blink.{into}
+use Rattle.sponge.proofs.Turned.{turned}
+use Rattle.sponge.proofs.close.Statement.{statement}
+use Rattle.sponge.proofs.close.Tie as tie
+use Rattle.sponge.proofs.close.Reads as reads
+use Rattle.sponge.proofs.close.Lts as lts
+use Rattle.permutation.proofs.permute.Reads as permute-reads
+use Rattle.sponge.proofs.mark.Reads as mark-reads
+
+mark-requires : tie.Need-mark-requires
+mark-requires c κs = search needs
+
+mark-requires-2 : tie.Need-mark-requires-2
+mark-requires-2 c κs = search needs
+
+permute-requires : tie.Need-permute-requires
+permute-requires c κs = search needs
+
+same-length : tie.Need-same-length
+same-length c = search needs
+
+returns : tie.Need-returns
+unfolding xor
+returns c =
+    let m = c .before .before .before .before .before .before in
+    turned (c .before .before .permute .ensures) (m .mark2 .ensures ∙ ap (into 32 (xor 0x02 (m .before .before .before .before .before .before .before .args .domain))) (m .before .before .before .before .mark .ensures)) (omega arith)
+
+pub close-spec : {M : Type 1} → statement M
+close-spec =
+    tie.close (tie.spec mark-requires mark-requires-2 permute-requires same-length returns)

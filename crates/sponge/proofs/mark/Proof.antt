@@ -1,0 +1,26 @@
+-- `sponge::mark` meets its contract: the definition, unfolded.
+-- Assumes nothing.
+use mathlib.Core.Path.{refl}
+use borrow.Author.Needs.{needs}
+use Rattle.laws.specs.Xor.{xor}
+use Rattle.sponge.specs.Blink.{into}
+use Rattle.sponge.proofs.mark.Statement.{statement}
+use Rattle.sponge.proofs.mark.Tie as tie
+use Rattle.sponge.proofs.mark.Reads as reads
+use Rattle.sponge.proofs.mark.Lts as lts
+
+slice-read-state : tie.Need-slice-read-state
+slice-read-state c = search needs
+
+slice-write-state : tie.Need-slice-write-state
+slice-write-state c = search needs
+
+same-length : tie.Need-same-length
+same-length c = search needs
+
+returns : tie.Need-returns
+unfolding into xor
+returns c = refl
+
+pub mark-spec : {M : Type 1} → statement M
+mark-spec = tie.close (tie.spec slice-read-state slice-write-state same-length returns)

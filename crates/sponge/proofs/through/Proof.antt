@@ -1,0 +1,68 @@
+-- `sponge::through` meets its contract: refused with the number, or done.
+-- Assumes nothing.
+use mathlib.Core.Path.{_≡_, refl, sym, ap, _∙_}
+use native.Mathlib.Omega.{arith}
+use borrow.Author.Needs.{needs}
+use lib.ListN.{length}
+use Rattle.sponge.proofs.Answers.{allowed, ran-refused, ran-done, copied}
+use Rattle.sponge.proofs.through.Statement.{statement}
+use Rattle.sponge.proofs.through.Tie as tie
+use Rattle.sponge.proofs.through.Reads as reads
+use Rattle.sponge.proofs.through.Lts as lts
+use Rattle.sponge.proofs.copy.Reads as copy-reads
+use Rattle.sponge.proofs.number.Reads as number-reads
+use Rattle.sponge.proofs.run.Reads as run-reads
+
+number-requires : tie.Need-number-requires
+number-requires c κs = search needs
+
+same-length : tie.Need-same-length
+same-length c = search needs
+
+same-length-2 : tie.Need-same-length-2
+same-length-2 c = search needs
+
+returns : tie.Need-returns
+returns c = ran-refused _ _ _ _ _ _ (c .before .number .ensures) (c .if1 .taken)
+
+copy-requires : tie.Need-copy-requires
+copy-requires c κs =
+    let n = c .before .before in
+    let a = allowed _ _ _ (sym (n .number .ensures) ∙ c .before .if1 .left) in
+    omega arith
+
+run-requires : tie.Need-run-requires
+run-requires c κs =
+    let i = c .before .before .before .before .before .before in
+    let n = i .before in
+    let a = allowed _ _ _ (sym (n .number .ensures) ∙ i .if1 .left) in
+    let o = c .before .before .before .before .copy .kept .0 in
+    (a .full, omega arith)
+
+same-length-3 : tie.Need-same-length-3
+same-length-3 c = search needs
+
+same-length-4 : tie.Need-same-length-4
+same-length-4 c = search needs
+
+returns-2 : tie.Need-returns-2
+returns-2 c =
+    let u = c .before .before .before .before in
+    let d = u .before .before .before .before .before in
+    let i = d .before .before in
+    let n = i .before .number .ensures in
+    ran-done _ _ _ _ _ _ n _ _ _ (i .if1 .left) (copied _ _ _ _ _ n (i .if1 .left) (d .copy .ensures)) (u .run .ensures)
+
+pub through-spec : {M : Type 1} → statement M
+through-spec =
+    tie.close
+    (tie.spec
+    number-requires
+    same-length
+    same-length-2
+    returns
+    copy-requires
+    run-requires
+    same-length-3
+    same-length-4
+    returns-2)
