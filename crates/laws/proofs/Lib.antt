@@ -4,3 +4,4 @@ pub mod TableLaws
 pub mod XorLaws
 pub mod ListLaws
 pub mod SpliceLaws
+pub mod SameLaws
