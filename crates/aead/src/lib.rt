@@ -1,8 +1,9 @@
 // Sealing and opening: STRIBOBr2.
 ghost use mathlib.Core.Path.{_≡_};
-ghost use Prim.Native.Nat.{_≤_};
-ghost use lib.ListN.{length};
-ghost use Rattle.aead.specs.Sealing.{keyed, sized, limited, Sealed, Opened};
+ghost use Prim.Native.Nat.{_+_, _≤_};
+ghost use lib.ListN.{length, replicate};
+ghost use Rattle.laws.specs.Choose.{pick};
+ghost use Rattle.aead.specs.Sealing.{keyed, sealedFrom, openedFrom, fitsFrom, sized, limited, Sealed, Opened};
 
 const KEY_DOMAIN: u8 = 0x10;
 
@@ -49,42 +50,59 @@ fn keyed(key: &[u8], nonce: &[u8], associated: &[u8]) -> [u8; 64]
     state
 }
 
+// Seals from the state that key, nonce and associated data leave: the ciphertext, then the tag.
+fn seal_from(mut state: [u8; 64], message: &[u8], out: &mut [u8])
+    requires { ⌜ (length state ≡ 64) × (length (now message) ≤ 65520) × (length (now out) ≡ length (now message) + 16) ⌝ }
+    ensures { λ _. ⌜ now (out .exit) ≡ sealedFrom state (now (message .entry)) ⌝ }
+{
+    let n = message.len();
+    sponge::enc(&mut state, message, &mut out[..n], MESSAGE_DOMAIN);
+    buffer::copy(&mut out[n..], &state[..16]);
+}
+
+// Opens from that state, and says whether the tag fits. All of the text is worked through, then all of the tag compared; where it
+// does not fit, `out` is left all zero.
+fn open_from(mut state: [u8; 64], sealed: &[u8], out: &mut [u8]) -> bool
+    requires { ⌜ (length state ≡ 64) × (length (now out) ≤ 65520) × (length (now sealed) ≡ length (now out) + 16) ⌝ }
+    ensures { λ r. ⌜ (r ≡ fitsFrom state (now (sealed .entry))) × (now (out .exit) ≡ pick r (openedFrom state (now (sealed .entry))) (replicate (length (now (out .entry))) 0)) ⌝ }
+{
+    let n = out.len();
+    sponge::dec(&mut state, &sealed[..n], out, MESSAGE_DOMAIN);
+    let fit = buffer::same(&state[..16], &sealed[n..]);
+    if !fit {
+        buffer::zero(out);
+    }
+    fit
+}
+
 // Seals the message into `out`, 16 bytes longer. 2: key, nonce or `out` of a wrong length; 9: associated data above 65,536 bytes or
 // message above 65,520. Refused, `out` is untouched.
 pub fn seal(key: &[u8], nonce: &[u8], associated: &[u8], message: &[u8], out: &mut [u8]) -> u8
     ensures { λ r. ⌜ Sealed (now (key .entry)) (now (nonce .entry)) (now (associated .entry)) (now (message .entry)) (now (out .entry)) r (now (out .exit)) ⌝ }
 {
-    let n = message.len();
-    if !are_sized(key, nonce, out.len(), n) {
+    if !are_sized(key, nonce, out.len(), message.len()) {
         return 2;
     }
-    if !are_limited(associated, n) {
+    if !are_limited(associated, message.len()) {
         return 9;
     }
-    let mut state = keyed(key, nonce, associated);
-    sponge::enc(&mut state, message, &mut out[..n], MESSAGE_DOMAIN);
-    buffer::copy(&mut out[n..], &state[..16]);
+    seal_from(keyed(key, nonce, associated), message, out);
     0
 }
 
 // Opens what was sealed into `out`, 16 bytes shorter. 2 and 9 as for sealing, `out` untouched; 7: the tag does not fit, `out` all zero.
-// All of the text is worked through, then all of the tag compared.
 pub fn open(key: &[u8], nonce: &[u8], associated: &[u8], sealed: &[u8], out: &mut [u8]) -> u8
     ensures { λ r. ⌜ Opened (now (key .entry)) (now (nonce .entry)) (now (associated .entry)) (now (sealed .entry)) (now (out .entry)) r (now (out .exit)) ⌝ }
 {
-    let n = out.len();
-    if !are_sized(key, nonce, sealed.len(), n) {
+    if !are_sized(key, nonce, sealed.len(), out.len()) {
         return 2;
     }
-    if !are_limited(associated, n) {
+    if !are_limited(associated, out.len()) {
         return 9;
     }
-    let mut state = keyed(key, nonce, associated);
-    sponge::dec(&mut state, &sealed[..n], out, MESSAGE_DOMAIN);
-    if buffer::same(&state[..16], &sealed[n..]) {
+    if open_from(keyed(key, nonce, associated), sealed, out) {
         0
     } else {
-        buffer::zero(out);
         7
     }
 }

@@ -1,5 +1,6 @@
 -- What is true of the definitions of specs/: laws that every layer cites.
 pub mod OrderLaws
+pub mod ChooseLaws
 pub mod TableLaws
 pub mod XorLaws
 pub mod ListLaws

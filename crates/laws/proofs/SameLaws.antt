@@ -15,6 +15,7 @@ use lib.Bits.{bitXor, bitOr, or-add-and, xor-add-and, and-le-l, and-le-r, xor-se
 use borrow.Author.Tests.{eq-eqb, ne-eqb, eqb-true, eqb-false}
 use Rattle.laws.specs.Lists.{sameTo, same}
 use Rattle.laws.proofs.OrderLaws.{lt-or-ge}
+use Rattle.laws.proofs.ChooseLaws.{both-left, both-right}
 
 -- one more pair
 step : (acc x y : ℕ) (p q : Bool) → eqb acc 0 ≡ p → eqb x y ≡ q → eqb (bitOr acc (bitXor x y)) 0 ≡ (p && q)
@@ -37,15 +38,6 @@ unfolding sameTo
 same-more a b acc i e = rw add-one (step acc (getD a i 0) (getD b i 0) (sameTo a b i) (eqb (getD a i 0) (getD b i 0)) e refl)
 
 -- ---- the test says that they are equal, and where they are equal it holds
-both-left : (p q : Bool) → (p && q) ≡ true → p ≡ true
-both-left true q e = refl
-both-left false q e = e
-
-both-right : (p q : Bool) → (p && q) ≡ true → q ≡ true
-both-right true q e = e
-both-right false true e = refl
-both-right false false e = e
-
 same-at : (a b : List ℕ) (n : ℕ) → sameTo a b n ≡ true → (k : ℕ) → k < n → getD a k 0 ≡ getD b k 0
 unfolding sameTo
 same-at a b zero e k h = absurd (not-suc-le-zero h)

@@ -11,9 +11,6 @@ use Rattle.sponge.proofs.CallLaws.{put-done, after-length}
 use Rattle.aead.specs.Sealing.{keyed}
 use Rattle.aead.proofs.keyed.Statement.{statement}
 use Rattle.aead.proofs.keyed.Tie as tie
-use Rattle.aead.proofs.keyed.Reads as reads
-use Rattle.aead.proofs.keyed.Lts as lts
-use Rattle.sponge.proofs.put.Reads as put-reads
 
 -- each put, of a length within its limit, does its work
 thrice : {r₁ r₂ r₃ : ℕ} {k n a v₁ v₂ v₃ : List ℕ} → Put 0x10 k (replicate 64 0) r₁ v₁ → Put 0x20 n v₁ r₂ v₂ → Put 0x40 a v₂ r₃ v₃

@@ -1,81 +1,48 @@
+-- `aead::seal` meets its contract: its tests, one after the other, then the sealing itself.
+-- Assumes nothing.
+use borrow.Author.Tests.{not-true, not-false}
+use mathlib.Core.Path.{_≡_, sym, ap, _∙_}
+use lib.ListN.{length}
+use Rattle.aead.proofs.Lengths.{sizes, limits, keyed-length}
+use Rattle.aead.proofs.Answers.{seal-2, seal-9, seal-0}
 use borrow.Author.Needs.{needs}
 use Rattle.aead.proofs.seal.Statement.{statement}
 use Rattle.aead.proofs.seal.Tie as tie
-use Rattle.aead.proofs.seal.Reads as reads
-use Rattle.aead.proofs.seal.Lts as lts
-use Rattle.aead.proofs.are_limited.Reads as are-limited-reads
-use Rattle.aead.proofs.are_sized.Reads as are-sized-reads
-use Rattle.aead.proofs.keyed.Reads as keyed-reads
-use Rattle.buffer.proofs.copy.Reads as copy-reads
-use Rattle.sponge.proofs.enc.Reads as enc-reads
 
--- src/lib.rt:58:9
 are-sized-requires : tie.Need-are-sized-requires
 are-sized-requires c κs = search needs
 
--- src/lib.rt:59:9
 returns : tie.Need-returns
-returns c = search needs
+returns c = seal-2 (sym (c .before .are-sized .ensures) ∙ not-true _ (c .if1 .taken))
 
--- src/lib.rt:61:9
 are-limited-requires : tie.Need-are-limited-requires
 are-limited-requires c κs = search needs
 
--- src/lib.rt:62:9
 returns-2 : tie.Need-returns-2
-returns-2 c = search needs
+returns-2 c = seal-9 (sym (c .before .before .before .are-sized .ensures) ∙ not-false _ (c .before .before .if1 .left)) (sym (c .before .are-limited .ensures) ∙ not-true _ (c .if2 .taken))
 
--- src/lib.rt:64:21
 keyed-requires : tie.Need-keyed-requires
-keyed-requires c κs = search needs
+keyed-requires c κs =
+    let s = sizes _ _ _ _ (sym (c .before .before .before .are-sized .ensures) ∙ not-false _ (c .before .before .if1 .left)) in
+    let l = limits _ _ (sym (c .before .are-limited .ensures) ∙ not-false _ (c .if2 .left)) in
+    (s .key24, s .nonce16, l .associated-most)
 
--- src/lib.rt:65:17
-slice-aggregate-enc : tie.Need-slice-aggregate-enc
-slice-aggregate-enc c = search needs
+seal-from-requires : tie.Need-seal-from-requires
+seal-from-requires c κs =
+    let i = c .before .before in
+    let s = sizes _ _ _ _ (sym (i .before .before .before .are-sized .ensures) ∙ not-false _ (i .before .before .if1 .left)) in
+    let l = limits _ _ (sym (i .before .are-limited .ensures) ∙ not-false _ (i .if2 .left)) in
+    (ap length (c .before .keyed .ensures) ∙ keyed-length _ _ _, l .short-most, s .more16)
 
--- src/lib.rt:65:38
-slice-relend-prefix-enc : tie.Need-slice-relend-prefix-enc
-slice-relend-prefix-enc c = search needs
-
--- src/lib.rt:65:38
-slice-aggregate-enc-2 : tie.Need-slice-aggregate-enc-2
-slice-aggregate-enc-2 c = search needs
-
--- src/lib.rt:65:5
-enc-requires : tie.Need-enc-requires
-enc-requires c κs = search needs
-
--- src/lib.rt:66:18
-sub-copy : tie.Need-sub-copy
-sub-copy c = search needs
-
--- src/lib.rt:66:18
-part-copy-start : tie.Need-part-copy-start
-part-copy-start c = search needs
-
--- src/lib.rt:66:18
-part-copy-end : tie.Need-part-copy-end
-part-copy-end c = search needs
-
--- src/lib.rt:66:33
-array-share-prefix-state : tie.Need-array-share-prefix-state
-array-share-prefix-state c = search needs
-
--- src/lib.rt:66:33
-slice-aggregate-copy : tie.Need-slice-aggregate-copy
-slice-aggregate-copy c = search needs
-
--- src/lib.rt:66:5
-copy-requires : tie.Need-copy-requires
-copy-requires c κs = search needs
-
--- src/lib.rt:54:1
 same-length : tie.Need-same-length
 same-length c = search needs
 
--- src/lib.rt:54:1
 returns-3 : tie.Need-returns-3
-returns-3 c = search needs
+returns-3 c =
+    let f = c .before .before in
+    let i = f .before .before .before in
+    seal-0 (sym (i .before .before .before .are-sized .ensures) ∙ not-false _ (i .before .before .if1 .left)) (sym (i .before .are-limited .ensures) ∙ not-false _ (i .if2 .left))
+    (f .before .before .keyed .ensures) (f .seal-from .ensures)
 
 pub seal-spec : {M : Type 1} → statement M
 seal-spec =
@@ -86,15 +53,6 @@ seal-spec =
     are-limited-requires
     returns-2
     keyed-requires
-    slice-aggregate-enc
-    slice-relend-prefix-enc
-    slice-aggregate-enc-2
-    enc-requires
-    sub-copy
-    part-copy-start
-    part-copy-end
-    array-share-prefix-state
-    slice-aggregate-copy
-    copy-requires
+    seal-from-requires
     same-length
     returns-3)

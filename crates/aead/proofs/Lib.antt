@@ -1,0 +1,4 @@
+-- What is true of sealing and opening.
+pub mod Lengths
+pub mod Runs
+pub mod Answers
