@@ -54,9 +54,12 @@ pub keyed-length : (key nonce associated : List ℕ) → length (keyed key nonce
 unfolding keyed
 keyed-length key nonce associated = after-length put 0x40 _ associated
 
-pub sealed-length : (key nonce associated message : List ℕ) → length (sealed key nonce associated message) ≡ length message + 16
-unfolding sealed sealedFrom
-sealed-length key nonce associated message =
-    let v = keyed key nonce associated in
+pub sealedFrom-length : (v message : List ℕ) → length v ≡ 64 → length (sealedFrom v message) ≡ length message + 16
+unfolding sealedFrom
+sealedFrom-length v message h =
     let l : length (take 16 (after enc 0x50 v message)) ≡ 16 = length-take-le 16 (after enc 0x50 v message) (omega (arith, after-length enc 0x50 v message)) in
-    omega (arith, length-append (out enc 0x50 v message) (take 16 (after enc 0x50 v message)), out-length-enc 0x50 v message (keyed-length key nonce associated))
+    omega (arith, length-append (out enc 0x50 v message) (take 16 (after enc 0x50 v message)), out-length-enc 0x50 v message h)
+
+pub sealed-length : (key nonce associated message : List ℕ) → length (sealed key nonce associated message) ≡ length message + 16
+unfolding sealed
+sealed-length key nonce associated message = sealedFrom-length (keyed key nonce associated) message (keyed-length key nonce associated)

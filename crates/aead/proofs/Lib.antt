@@ -2,3 +2,5 @@
 pub mod Lengths
 pub mod Runs
 pub mod Answers
+pub mod Accepted
+pub mod Demand2

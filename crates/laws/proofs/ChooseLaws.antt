@@ -1,7 +1,8 @@
 -- Tests that hold together, and what a refusal's number says of the tests before it.
 -- Assumes nothing.
-use mathlib.Core.Path.{_≡_, refl}
-use mathlib.Core.Bool.{Bool, true, false, _&&_}
+use borrow.Author.Tests.{not-true, not-false}
+use mathlib.Core.Path.{_≡_, refl, sym, _∙_}
+use mathlib.Core.Bool.{Bool, true, false, not, _&&_}
 use Prim.Native.Nat.{ℕ, suc}
 use native.Mathlib.Omega.{arith}
 use Rattle.laws.specs.Choose.{firstOf}
@@ -14,6 +15,13 @@ pub both-right : (p q : Bool) → (p && q) ≡ true → q ≡ true
 both-right true q e = e
 both-right false true e = refl
 both-right false false e = e
+
+-- what a test t says behind `if !r`, where r is what a call answers
+pub passed : {r t : Bool} → r ≡ t → not r ≡ false → t ≡ true
+passed {r = r} e h = sym e ∙ not-false r h
+
+pub failed : {r t : Bool} → r ≡ t → not r ≡ true → t ≡ false
+failed {r = r} e h = sym e ∙ not-true r h
 
 -- no refusal: the test holds, and the later tests refuse nothing
 pub no-refusal : (t : Bool) (n rest : ℕ) → firstOf t (suc n) rest ≡ 0 → (t ≡ true) × (rest ≡ 0)
