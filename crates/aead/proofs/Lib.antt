@@ -4,3 +4,4 @@ pub mod Runs
 pub mod Answers
 pub mod Accepted
 pub mod Demand2
+pub mod Unique
