@@ -19,13 +19,13 @@ pub fn zero(out: &mut [u8])
 pub fn copy(to: &mut [u8], from: &[u8])
     ensures { λ _. ⌜ now (to .exit) ≡ splice (now (to .entry)) 0 (take (length (now (to .entry))) (now (from .entry))) ⌝ }
 {
-    let mut i: usize = 0;
-    while i < to.len() {
-        if from.len() <= i {
+    let mut at: usize = 0;
+    while at < to.len() {
+        if from.len() <= at {
             return;
         }
-        to[i] = from[i];
-        i += 1;
+        to[at] = from[at];
+        at += 1;
     }
 }
 
@@ -38,10 +38,10 @@ pub fn same(a: &[u8], b: &[u8]) -> bool
         return false;
     }
     let mut differing: u8 = 0;
-    let mut i: usize = 0;
-    while i < n {
-        differing = differing | (a[i] ^ b[i]);
-        i += 1;
+    let mut k: usize = 0;
+    while k < n {
+        differing = differing | (a[k] ^ b[k]);
+        k += 1;
     }
     differing == 0
 }

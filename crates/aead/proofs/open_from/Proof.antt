@@ -27,7 +27,7 @@ array-share-prefix-state c = search needs
 slice-aggregate-same : tie.Need-slice-aggregate-same
 slice-aggregate-same c =
     let d = c .before .before .before .before in
-    sym (length-take-le 16 (d .dec .last .0) (omega (arith, d .dec .kept .0)))
+    sym (length-take-le _ (d .dec .last .0) (omega (arith, d .dec .kept .0)))
 
 sub-same : tie.Need-sub-same
 sub-same c = search needs

@@ -37,7 +37,7 @@ array-share-prefix-state c = search needs
 slice-aggregate-copy : tie.Need-slice-aggregate-copy
 slice-aggregate-copy c =
     let e = c .before .before .before .before .before in
-    sym (length-take-le 16 (e .enc .last .0) (omega (arith, e .enc .kept .0)))
+    sym (length-take-le _ (e .enc .last .0) (omega (arith, e .enc .kept .0)))
 
 copy-requires : tie.Need-copy-requires
 copy-requires c κs = search needs

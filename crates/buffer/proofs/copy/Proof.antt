@@ -41,7 +41,7 @@ returns : tie.Need-returns Inv-loop μ-loop
 returns c =
     let at = c .before .before in
     let a = at .before .args in
-    at .loop .inv .3 ∙ enough (a .to .now) (a .from .now) (at .loop .i) (length (a .to .now)) (omega arith) (omega arith)
+    at .loop .inv .3 ∙ enough (a .to .now) (a .from .now) (at .loop .at) (length (a .to .now)) (omega arith) (omega arith)
 
 shared-slice-read-to : tie.Need-shared-slice-read-to Inv-loop μ-loop
 shared-slice-read-to c = search needs
@@ -49,8 +49,8 @@ shared-slice-read-to c = search needs
 slice-write-to : tie.Need-slice-write-to Inv-loop μ-loop
 slice-write-to c = search needs
 
-add-i : tie.Need-add-i Inv-loop μ-loop
-add-i c = search needs
+add-at : tie.Need-add-at Inv-loop μ-loop
+add-at c = search needs
 
 loop-less : tie.Need-loop-less Inv-loop μ-loop
 loop-less c = search needs
@@ -59,7 +59,7 @@ loop-again : tie.Need-loop-again Inv-loop μ-loop
 loop-again c =
     let at = c .before .before .before in
     let a = at .before .args in
-    (omega arith, omega arith, simp length-set (omega arith), more (at .loop .to) (a .to .now) (a .from .now) (at .loop .i) (omega arith) (omega arith) (at .loop .inv .3))
+    (omega arith, omega arith, simp length-set (omega arith), more (at .loop .to) (a .to .now) (a .from .now) (at .loop .at) (omega arith) (omega arith) (at .loop .inv .3))
 
 same-length-2 : tie.Need-same-length-2 Inv-loop μ-loop
 same-length-2 c = search needs
@@ -68,10 +68,10 @@ returns-2 : tie.Need-returns-2 Inv-loop μ-loop
 returns-2 c =
     let at = c .before in
     let a = at .before .args in
-    let e : at .loop .i ≡ length (a .to .now) = omega arith in
+    let e : at .loop .at ≡ length (a .to .now) = omega arith in
     at .loop .inv .3 ∙ ap (λ (n : ℕ). splice (a .to .now) 0 (take n (a .from .now))) e
 
 pub copy-spec : {M : Type 1} → statement M
 copy-spec =
     tie.close
-    (tie.spec Inv-loop μ-loop loop-holds same-length returns shared-slice-read-to slice-write-to add-i loop-less loop-again same-length-2 returns-2)
+    (tie.spec Inv-loop μ-loop loop-holds same-length returns shared-slice-read-to slice-write-to add-at loop-less loop-again same-length-2 returns-2)

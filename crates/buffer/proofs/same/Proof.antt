@@ -31,8 +31,8 @@ shared-slice-read-differing c = search needs
 shared-slice-read-differing-2 : tie.Need-shared-slice-read-differing-2 Inv-loop μ-loop
 shared-slice-read-differing-2 c = search needs
 
-add-i : tie.Need-add-i Inv-loop μ-loop
-add-i c = search needs
+add-k : tie.Need-add-k Inv-loop μ-loop
+add-k c = search needs
 
 loop-less : tie.Need-loop-less Inv-loop μ-loop
 loop-less c = search needs
@@ -40,16 +40,16 @@ loop-less c = search needs
 loop-again : tie.Need-loop-again Inv-loop μ-loop
 loop-again c =
     let l = c .before .before .before .loop in
-    (search needs, l .inv .1, l .inv .2, same-more _ _ (l .differing) (l .i) (l .inv .3))
+    (search needs, l .inv .1, l .inv .2, same-more _ _ (l .differing) (l .k) (l .inv .3))
 
 returns-2 : tie.Need-returns-2 Inv-loop μ-loop
 unfolding same
 returns-2 c =
     let l = c .before .loop in
     let a = c .before .before .before .args in
-    let e : l .i ≡ length (a .a .now) = omega arith in
+    let e : l .k ≡ length (a .a .now) = omega arith in
     rw (eq-eqb (length (a .b .now)) (length (a .a .now)) (omega arith)) (l .inv .3 ∙ ap (λ (k : ℕ). sameTo (a .a .now) (a .b .now) k) e)
 
 pub same-spec : {M : Type 1} → statement M
 same-spec =
-    tie.close (tie.spec Inv-loop μ-loop returns loop-holds shared-slice-read-differing shared-slice-read-differing-2 add-i loop-less loop-again returns-2)
+    tie.close (tie.spec Inv-loop μ-loop returns loop-holds shared-slice-read-differing shared-slice-read-differing-2 add-k loop-less loop-again returns-2)
