@@ -119,3 +119,23 @@ splice-after l b k h =
     ∙ getD-append-add b (drop (0 + length b) l) (k - length b) 0
     ∙ getD-drop (0 + length b) l (k - length b) 0
     ∙ ap (λ (m : ℕ). getD l m 0) e₂
+
+-- a list laid over all that stands behind another
+pub splice-tail : (e d w : List ℕ) (n : ℕ) → length e ≡ n → length d ≡ length w → splice (e ++ d) n w ≡ e ++ w
+unfolding splice
+splice-tail e d w n h k =
+    let l : length (e ++ d) ≤ n + length w = omega (arith, length-append e d) in
+    rw (take-at e d n h, drop-of-length-le (e ++ d) l, append-nil)
+
+-- two parts of one list, the front up to n and the rest, that come back as e and as w laid over the rest
+pub splice-two : (o e w b : List ℕ) (n : ℕ) → length e ≡ n → length o ≡ n + length w
+    → b ≡ splice (take (length (e ++ drop n o) - n) (drop n (e ++ drop n o))) 0 (take (length (take (length (e ++ drop n o) - n) (drop n (e ++ drop n o)))) w)
+    → take n (e ++ drop n o) ++ (b ++ drop (length (e ++ drop n o) - n) (drop n (e ++ drop n o))) ≡ e ++ w
+splice-two o e w b n h k q =
+    let l = e ++ drop n o in
+    let d : length (drop n o) ≡ length w = simp length-drop (omega arith) in
+    let m : length l ≡ n + length w = length-append e (drop n o) ∙ omega arith in
+    let r : length w ≤ length (take (length l - n) (drop n l)) = simp (length-take, length-drop) (omega arith) in
+    ap (λ (x : List ℕ). take n l ++ (x ++ drop (length l - n) (drop n l))) (q ∙ ap (splice (take (length l - n) (drop n l)) 0) (take-all _ w r))
+    ∙ splice-part l n w (omega arith)
+    ∙ splice-tail e (drop n o) w n h d

@@ -14,7 +14,8 @@ use Rattle.laws.proofs.OrderLaws.{lt-or-ge}
 use Rattle.laws.proofs.XorLaws.{xor-byte}
 use Rattle.permutation.specs.Permutation.{added}
 use Rattle.permutation.proofs.Build.{state-at}
-use Rattle.permutation.proofs.Laws.{Whole, π-whole}
+use Rattle.permutation.proofs.RoundLaws.{π-whole}
+use Rattle.permutation.proofs.StateLaws.{Whole}
 use Rattle.sponge.specs.Blink.{Op, put, get, enc, dec, kept, given, into, padded, group, runs, met, gave, after, out}
 use Rattle.sponge.proofs.Groups.{added-length}
 use Rattle.sponge.proofs.Lengths.{kept-length, group-length}

@@ -68,9 +68,9 @@ unfolding met
 met-length op domain v s zero h = h
 met-length op domain v s (suc k) h = π-length _
 
-pub after-length : (op : Op) (domain : ℕ) (v s : List ℕ) → length v ≡ 64 → length (after op domain v s) ≡ 64
-unfolding after
-after-length op domain v s h = met-length op domain v s (runs s) h
+pub after-length : (op : Op) (domain : ℕ) (v s : List ℕ) → length (after op domain v s) ≡ 64
+unfolding after runs met
+after-length op domain v s = π-length _
 
 pub gave-length : (op : Op) → T (gives op) → (domain : ℕ) (v s : List ℕ) (k : ℕ) → length v ≡ 64 → length (gave op domain v s k) ≡ min (k * 32) (length s)
 unfolding gave

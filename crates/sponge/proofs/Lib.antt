@@ -8,3 +8,4 @@ pub mod Answers
 pub mod Trips
 pub mod Bytes
 pub mod Unique
+pub mod CallLaws

@@ -1,0 +1,7 @@
+-- What is true of sealing and opening.
+pub mod Lengths
+pub mod Runs
+pub mod Answers
+pub mod Accepted
+pub mod Demand2
+pub mod Unique

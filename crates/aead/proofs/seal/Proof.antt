@@ -1,0 +1,58 @@
+-- `aead::seal` meets its contract: its tests, one after the other, then the sealing itself.
+-- Assumes nothing.
+use mathlib.Core.Path.{ap, _∙_}
+use lib.ListN.{length}
+use Rattle.laws.proofs.ChooseLaws.{passed, failed}
+use Rattle.aead.proofs.Lengths.{sizes, limits, keyed-length}
+use Rattle.aead.proofs.Answers.{seal-2, seal-9, seal-0}
+use borrow.Author.Needs.{needs}
+use Rattle.aead.proofs.seal.Statement.{statement}
+use Rattle.aead.proofs.seal.Tie as tie
+
+are-sized-requires : tie.Need-are-sized-requires
+are-sized-requires c κs = search needs
+
+returns : tie.Need-returns
+returns c = seal-2 (failed (c .before .are-sized .ensures) (c .if1 .taken))
+
+are-limited-requires : tie.Need-are-limited-requires
+are-limited-requires c κs = search needs
+
+returns-2 : tie.Need-returns-2
+returns-2 c = seal-9 (passed (c .before .before .before .are-sized .ensures) (c .before .before .if1 .left)) (failed (c .before .are-limited .ensures) (c .if2 .taken))
+
+keyed-requires : tie.Need-keyed-requires
+keyed-requires c κs =
+    let s = sizes _ _ _ _ (passed (c .before .before .before .are-sized .ensures) (c .before .before .if1 .left)) in
+    let l = limits _ _ (passed (c .before .are-limited .ensures) (c .if2 .left)) in
+    (s .key24, s .nonce16, l .associated-most)
+
+seal-from-requires : tie.Need-seal-from-requires
+seal-from-requires c κs =
+    let i = c .before .before in
+    let s = sizes _ _ _ _ (passed (i .before .before .before .are-sized .ensures) (i .before .before .if1 .left)) in
+    let l = limits _ _ (passed (i .before .are-limited .ensures) (i .if2 .left)) in
+    (ap length (c .before .keyed .ensures) ∙ keyed-length _ _ _, l .short-most, s .more16)
+
+same-length : tie.Need-same-length
+same-length c = search needs
+
+returns-3 : tie.Need-returns-3
+returns-3 c =
+    let f = c .before .before in
+    let i = f .before .before .before in
+    seal-0 (passed (i .before .before .before .are-sized .ensures) (i .before .before .if1 .left)) (passed (i .before .are-limited .ensures) (i .if2 .left))
+    (f .before .before .keyed .ensures) (f .seal-from .ensures)
+
+pub seal-spec : {M : Type 1} → statement M
+seal-spec =
+    tie.close
+    (tie.spec
+    are-sized-requires
+    returns
+    are-limited-requires
+    returns-2
+    keyed-requires
+    seal-from-requires
+    same-length
+    returns-3)

@@ -1,0 +1,2 @@
+-- What sealing and opening are.
+pub mod Sealing

@@ -1,0 +1,2 @@
+-- What is true of what is done with lent buffers.
+pub mod Unique
