@@ -51,14 +51,26 @@ pub extern "C" fn nb_dec(state: &mut [u8], cipher: &[u8], out: &mut [u8], domain
 
 // ---- Sealing.
 #[no_mangle]
-pub extern "C" fn nb_seal(key: &[u8], nonce: &[u8], associated: &[u8], message: &[u8], out: &mut [u8]) -> u8
+pub extern "C" fn nb_seal(
+    key: &[u8],
+    nonce: &[u8],
+    associated: &[u8],
+    message: &[u8],
+    out: &mut [u8],
+) -> u8
     ensures { λ r. ⌜ Sealed (now (key .entry)) (now (nonce .entry)) (now (associated .entry)) (now (message .entry)) (now (out .entry)) r (now (out .exit)) ⌝ }
 {
     aead::seal(key, nonce, associated, message, out)
 }
 
 #[no_mangle]
-pub extern "C" fn nb_open(key: &[u8], nonce: &[u8], associated: &[u8], sealed: &[u8], out: &mut [u8]) -> u8
+pub extern "C" fn nb_open(
+    key: &[u8],
+    nonce: &[u8],
+    associated: &[u8],
+    sealed: &[u8],
+    out: &mut [u8],
+) -> u8
     ensures { λ r. ⌜ Opened (now (key .entry)) (now (nonce .entry)) (now (associated .entry)) (now (sealed .entry)) (now (out .entry)) r (now (out .exit)) ⌝ }
 {
     aead::open(key, nonce, associated, sealed, out)
