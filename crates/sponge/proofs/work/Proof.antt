@@ -1,24 +1,19 @@
 -- `sponge::work` meets its contract, way by way.
 -- Assumes nothing.
-use mathlib.Core.Path.{_≡_, refl, sym, ap, ap₂, _∙_}
+use mathlib.Core.Path.{_≡_, refl, ap, _∙_}
 use mathlib.Core.List.{List}
 use Prim.Native.Nat.{ℕ, _≤_}
 use native.Mathlib.Omega.{arith}
 use borrow.Author.Needs.{needs}
 use lib.ListN.{length, take}
 use Rattle.permutation.specs.Permutation.{added}
-use Rattle.sponge.specs.Blink.{Op, get, enc, dec, kept, given}
+use Rattle.sponge.specs.Blink.{kept, given}
 use Rattle.sponge.specs.Ways.{opOf, Worked}
 use Rattle.sponge.specs.declared.Way.{Way}
 use Rattle.sponge.specs.declared.Way.the-variants.{Get, Enc, Dec}
 use Rattle.sponge.proofs.Groups.{added-masked}
 use Rattle.sponge.proofs.work.Statement.{statement}
 use Rattle.sponge.proofs.work.Tie as tie
-use Rattle.sponge.proofs.work.Reads as reads
-use Rattle.sponge.proofs.work.Lts as lts
-use Rattle.sponge.proofs.add.Reads as add-reads
-use Rattle.sponge.proofs.copy.Reads as copy-reads
-use Rattle.sponge.proofs.mask.Reads as mask-reads
 
 module _ (way : Way) (g v v′ g′ : List ℕ) where
   worked-get : way ≡ Get → v′ ≡ v → g′ ≡ take (length g) v → Worked (opOf way) g v v′ g′
@@ -33,76 +28,59 @@ module _ (way : Way) (g v v′ g′ : List ℕ) where
   unfolding kept given
   worked-dec w s b small full = rw w (record { state = s ∙ ap (λ (t : List ℕ). added t v) b ∙ added-masked g v small full; bytes = b })
 
--- src/lib.rt:51:18
 enum-told : tie.Need-enum-told
 enum-told c = search needs
 
--- src/lib.rt:51:13
 copy-requires : tie.Need-copy-requires
 copy-requires c κs = search needs
 
--- src/lib.rt:54:17
 enum-told-2 : tie.Need-enum-told-2
 enum-told-2 c = search needs
 
--- src/lib.rt:54:13
 add-requires : tie.Need-add-requires
 add-requires c κs = search needs
 
--- src/lib.rt:55:13
 copy-requires-2 : tie.Need-copy-requires-2
 copy-requires-2 c κs = search needs
 
--- src/lib.rt:58:18
 enum-told-3 : tie.Need-enum-told-3
 enum-told-3 c = search needs
 
--- src/lib.rt:58:13
 mask-requires : tie.Need-mask-requires
 mask-requires c κs = search needs
 
--- src/lib.rt:59:13
 add-requires-2 : tie.Need-add-requires-2
 add-requires-2 c κs = search needs
 
--- src/lib.rt:45:1
 same-length : tie.Need-same-length
 same-length c = search needs
 
--- src/lib.rt:45:1
 same-length-2 : tie.Need-same-length-2
 same-length-2 c = search needs
 
--- src/lib.rt:45:1
 returns : tie.Need-returns
 returns c =
     let o = c .before .before in
     worked-get _ _ _ _ _ (o .before .before .before .enum-told .given .1) refl (o .copy .ensures)
 
--- src/lib.rt:45:1
 same-length-3 : tie.Need-same-length-3
 same-length-3 c = search needs
 
--- src/lib.rt:45:1
 same-length-4 : tie.Need-same-length-4
 same-length-4 c = search needs
 
--- src/lib.rt:45:1
 returns-2 : tie.Need-returns-2
 returns-2 c =
     let o = c .before .before in
     let d = o .before .before .before .before .before in
     worked-enc _ _ _ _ _ (d .before .before .before .enum-told2 .given .1) (d .add .ensures) (o .copy2 .ensures)
 
--- src/lib.rt:45:1
 same-length-5 : tie.Need-same-length-5
 same-length-5 c = search needs
 
--- src/lib.rt:45:1
 same-length-6 : tie.Need-same-length-6
 same-length-6 c = search needs
 
--- src/lib.rt:45:1
 returns-3 : tie.Need-returns-3
 returns-3 c =
     let o = c .before .before in
