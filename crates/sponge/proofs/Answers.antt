@@ -1,4 +1,4 @@
--- The answers of a call: refused, or done.
+-- The answers of a call: refused, or done; and what a call of the permutation leaves.
 -- Assumes nothing.
 use mathlib.Core.Path.{_≡_, refl, sym, ap, _∙_}
 use mathlib.Core.Bool.{Bool, true, false, _&&_}
@@ -9,10 +9,15 @@ use borrow.Author.Tests.{eq-eqb, ne-eqb, eqb-true, leb-true}
 use lib.Dec.{eqb, leb}
 use lib.ListN.{length, take}
 use lib.Seq.{take-all}
-use Rattle.laws.specs.Choose.{pick, firstOf}
-use Rattle.permutation.specs.Permutation.{whole}
+use Rattle.laws.specs.Choose.{firstOf}
+use Rattle.permutation.specs.Permutation.{π, whole, Permuted}
 use Rattle.sponge.specs.Blink.{Op, put, after, out, number, Put, Ran}
 use Rattle.sponge.specs.Ways.{Done}
+
+-- the permutation, of a state of 64 bytes
+pub turned : {s t u : List ℕ} {r : ℕ} → Permuted π t r u → t ≡ s → length t ≡ 64 → u ≡ π s
+unfolding whole
+turned {s} {t} p e h = rw (eq-eqb (length t) 64 h) at (p .state) ∙ ap π e
 
 -- what holds of the lengths where a call is not refused
 pub record Allowed (v s o : List ℕ) : Type 0 where

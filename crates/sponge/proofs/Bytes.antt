@@ -1,13 +1,13 @@
 -- Bytes in, bytes out: what an operation leaves and gives is below 256 where what it takes is.
 -- Assumes nothing.
-use mathlib.Core.Path.{_≡_, _∙_}
+use mathlib.Core.Path.{_∙_}
 use mathlib.Core.Bool.{Bool, true, false}
-use mathlib.Core.List.{List, [], _++_}
+use mathlib.Core.List.{List}
 use mathlib.Core.Logic.{⊎-elim}
 use Prim.Native.Nat.{ℕ, zero, suc, _*_, _≤_, _<_}
 use native.Mathlib.Omega.{arith}
 use lib.Dec.{lit<, ltb}
-use lib.ListN.{length, getD, take, drop, length-set, List·getD-eq-default}
+use lib.ListN.{length, getD, drop, length-set, List·getD-eq-default}
 use Rattle.laws.specs.Xor.{xor}
 use Rattle.laws.proofs.ByteLaws.{Bytes, bytes-nil, bytes-take, bytes-drop, bytes-append, bytes-set, bytes-splice}
 use Rattle.laws.proofs.OrderLaws.{lt-or-ge}

@@ -1,6 +1,6 @@
 -- One group against the front of the state: what is masked twice stands again.
 -- Assumes nothing.
-use mathlib.Core.Path.{_≡_, refl, sym, ap, _∙_}
+use mathlib.Core.Path.{_≡_, sym, ap, _∙_}
 use mathlib.Core.List.{List}
 use mathlib.Core.Logic.{⊎-elim}
 use Prim.Native.Nat.{ℕ, _≤_, _<_}
@@ -16,12 +16,17 @@ use Rattle.laws.proofs.XorLaws.{xor-zero, xor-back}
 use Rattle.permutation.specs.Permutation.{state, added}
 use Rattle.permutation.proofs.Build.{state-length, state-at, state-is}
 
+-- the rule of the loops that put a group and the state together
+unfoldable pub both : List ℕ → List ℕ → ℕ → ℕ
+both v g k = xor (getD v k 0) (getD g k 0)
+
 pub added-length : (g v : List ℕ) → length (added g v) ≡ 64
 unfolding added
 added-length g v = state-length _
 
 -- past the group's end the state stands
-pub added-past : (g v : List ℕ) (k : ℕ) → length g ≤ k → xor (getD v k 0) (getD g k 0) ≡ getD v k 0
+pub added-past : (g v : List ℕ) (k : ℕ) → length g ≤ k → both v g k ≡ getD v k 0
+unfolding both
 added-past g v k h = ap (xor (getD v k 0)) (List·getD-eq-default g 0 {n = k} h) ∙ xor-zero (getD v k 0)
 
 module _ (g v : List ℕ) (small : length g ≤ 64) where
@@ -32,13 +37,12 @@ module _ (g v : List ℕ) (small : length g ≤ 64) where
   unfolding added
   masked-at k h = getD-take (length g) (added g v) k 0 h ∙ state-at _ k (omega arith)
 
-  -- the rule of a loop that masks a group
-  pub masked-rule : listed 0 (length g) (λ k. xor (getD v k 0) (getD g k 0)) ≡ take (length g) (added g v)
-  unfolding added state
+  pub masked-rule : listed 0 (length g) (both v g) ≡ take (length g) (added g v)
+  unfolding added state both
   masked-rule = listed-take (length g) 64 _ small
 
   pub added-masked : length v ≡ 64 → added (take (length g) (added g v)) v ≡ splice v 0 g
-  unfolding added
+  unfolding added both
   added-masked full =
       state-is _ (splice v 0 g) (length-splice v 0 g (omega arith) ∙ full)
       (λ k h. ⊎-elim

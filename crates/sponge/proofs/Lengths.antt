@@ -1,17 +1,15 @@
 -- How many bytes: of the state, of a group, of what an operation gives; how often π runs.
 -- Assumes nothing.
-use mathlib.Core.Path.{_≡_, refl, sym, ap, ap₂, _∙_}
+use mathlib.Core.Path.{_≡_, ap, _∙_}
 use mathlib.Core.Bool.{Bool, true, false}
-use mathlib.Core.List.{List, [], _++_}
+use mathlib.Core.List.{List}
 use Prim.Native.Nat.{ℕ, zero, suc, min, max, _+_, _-_, _*_, _/_, _≤_, _<_}
 use native.Mathlib.Omega.{arith}
 use lib.Dec.{T}
-use lib.ListN.{length, take, drop, length-append, length-take, length-drop}
+use lib.ListN.{length, length-append, length-take, length-drop}
 use lib.Seq.{length-take-le}
-use Rattle.laws.specs.Lists.{splice}
 use Rattle.laws.proofs.SpliceLaws.{length-splice}
-use Rattle.permutation.specs.Permutation.{π, rounds, round, added}
-use Rattle.permutation.proofs.Build.{state-length}
+use Rattle.permutation.specs.Permutation.{π, rounds, round}
 use Rattle.sponge.specs.Blink.{Op, put, get, enc, dec, kept, given, group, runs, met, gave, after, out}
 use Rattle.sponge.proofs.Groups.{added-length, masked-length}
 

@@ -1,6 +1,4 @@
 -- What is true of the block operations.
-pub mod Rules
-pub mod Turned
 pub mod Groups
 pub mod Lengths
 pub mod Steps

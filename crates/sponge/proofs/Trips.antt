@@ -1,14 +1,13 @@
 -- The round trip: dec takes what enc gave back to what enc took, and the other way round, and both leave one state.
 -- Assumes nothing.
 use mathlib.Core.Path.{_≡_, refl, sym, ap, ap₂, _∙_}
-use mathlib.Core.Bool.{Bool}
 use mathlib.Core.List.{List, _++_}
 use mathlib.Core.Logic.{⊎-elim}
 use Prim.Native.Nat.{ℕ, zero, suc, _+_, _*_, _≤_, _<_}
 use native.Mathlib.Omega.{arith}
 use lib.Dec.{T, ltb}
 use lib.ListN.{length, take, drop, length-drop}
-use lib.Seq.{take-add, take-all, take-append-le, drop-append-le, drop-at, length-take-le}
+use lib.Seq.{take-add, take-all, take-append-le, drop-append-le, drop-at}
 use Rattle.laws.proofs.OrderLaws.{lt-or-ge}
 use Rattle.permutation.specs.Permutation.{π}
 use Rattle.sponge.specs.Blink.{Op, enc, dec, kept, given, padded, group, runs, met, gave, after, out}

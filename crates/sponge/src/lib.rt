@@ -4,10 +4,15 @@ ghost use Prim.Native.Nat.{_-_, _/_, _≤_, _<_};
 ghost use lib.ListN.{length, take};
 ghost use Rattle.laws.specs.Xor.{xor};
 ghost use Rattle.permutation.specs.Permutation.{π, added};
-ghost use Rattle.sponge.specs.Blink.{put, get, enc, dec, into, padded, after, out, number, Put, Ran};
+ghost use Rattle.sponge.specs.Blink.{put, get, enc, dec, into, after, number, Put, Ran};
 ghost use Rattle.sponge.specs.Ways.{opOf, Worked, Done};
 
-// What a group gives and leaves, for the three operations that give bytes.
+// The numbers of a refusal.
+const WRONG_LENGTH: u8 = 2;
+
+const TOO_LONG: u8 = 9;
+
+// The operations that give bytes.
 enum Way {
     Get,
     Enc,
@@ -15,6 +20,7 @@ enum Way {
 }
 
 // ---- A group: at most 32 bytes against the front of the state.
+// The group into the state, by xor.
 fn add(state: &mut [u8], group: &[u8])
     requires { ⌜ (length (now state) ≡ 64) × (length (now group) ≤ 32) ⌝ }
     ensures { λ _. ⌜ now (state .exit) ≡ added (now (group .entry)) (now (state .entry)) ⌝ }
@@ -24,6 +30,7 @@ fn add(state: &mut [u8], group: &[u8])
     }
 }
 
+// The state into the group, by xor.
 fn mask(group: &mut [u8], state: &[u8])
     requires { ⌜ (length (now state) ≡ 64) × (length (now group) ≤ 32) ⌝ }
     ensures { λ _. ⌜ now (group .exit) ≡ take (length (now (group .entry))) (added (now (group .entry)) (now (state .entry))) ⌝ }
@@ -33,6 +40,7 @@ fn mask(group: &mut [u8], state: &[u8])
     }
 }
 
+// The front of `from` over `to`.
 fn copy(to: &mut [u8], from: &[u8])
     requires { ⌜ length (now to) ≤ length (now from) ⌝ }
     ensures { λ _. ⌜ now (to .exit) ≡ take (length (now (to .entry))) (now (from .entry)) ⌝ }
@@ -42,6 +50,7 @@ fn copy(to: &mut [u8], from: &[u8])
     }
 }
 
+// dec masks the ciphertext; the plaintext, added, then makes it the state's front.
 fn work(way: Way, state: &mut [u8], group: &mut [u8])
     requires { ⌜ (length (now state) ≡ 64) × (length (now group) ≤ 32) ⌝ }
     ensures { λ _. ⌜ Worked (opOf way) (now (group .entry)) (now (state .entry)) (now (state .exit)) (now (group .exit)) ⌝ }
@@ -62,6 +71,7 @@ fn work(way: Way, state: &mut [u8], group: &mut [u8])
 }
 
 // ---- The padding, and π.
+// x into byte i, by xor.
 fn mark(state: &mut [u8], i: usize, x: u8)
     requires { ⌜ i < length (now state) ⌝ }
     ensures { λ _. ⌜ now (state .exit) ≡ into i x (now (state .entry)) ⌝ }
@@ -69,6 +79,7 @@ fn mark(state: &mut [u8], i: usize, x: u8)
     state[i] = state[i] ^ x;
 }
 
+// Behind a group that is not the last.
 fn between(state: &mut [u8], domain: u8)
     requires { ⌜ length (now state) ≡ 64 ⌝ }
     ensures { λ _. ⌜ now (state .exit) ≡ π (into 32 domain (now (state .entry))) ⌝ }
@@ -77,6 +88,7 @@ fn between(state: &mut [u8], domain: u8)
     permutation::permute(state);
 }
 
+// Behind the last group, which has n bytes.
 fn close(state: &mut [u8], n: usize, domain: u8)
     requires { ⌜ (length (now state) ≡ 64) × (n ≤ 32) ⌝ }
     ensures { λ _. ⌜ now (state .exit) ≡ π (into 32 (xor 0x02 domain) (into n 0x01 (now (state .entry)))) ⌝ }
@@ -86,13 +98,15 @@ fn close(state: &mut [u8], n: usize, domain: u8)
     permutation::permute(state);
 }
 
-// ---- The groups, one after another; behind each but the last stands another.
+// ---- The groups, one after another.
+// The number of the last group of n bytes, counted from 0.
 fn last(n: usize) -> usize
     ensures { λ r. ⌜ r ≡ (n - 1) / 32 ⌝ }
 {
     if n == 0 { 0 } else { (n - 1) / 32 }
 }
 
+// All of the bytes into the state.
 fn absorb(state: &mut [u8], bytes: &[u8], domain: u8)
     requires { ⌜ (length (now state) ≡ 64) × (length (now bytes) ≤ 65536) ⌝ }
     ensures { λ _. ⌜ now (state .exit) ≡ after put domain (now (state .entry)) (now (bytes .entry)) ⌝ }
@@ -109,7 +123,7 @@ fn absorb(state: &mut [u8], bytes: &[u8], domain: u8)
     close(state, n - at, domain);
 }
 
-// In place over io.
+// All of io, in place.
 fn run(way: Way, state: &mut [u8], io: &mut [u8], domain: u8)
     requires { ⌜ (length (now state) ≡ 64) × (length (now io) ≤ 65536) ⌝ }
     ensures { λ _. ⌜ Done (opOf way) domain (now (io .entry)) (now (state .entry)) (now (state .exit)) (now (io .exit)) ⌝ }
@@ -126,19 +140,20 @@ fn run(way: Way, state: &mut [u8], io: &mut [u8], domain: u8)
     close(state, n - at, domain);
 }
 
-// ---- The calls.
+// ---- The calls: 0, or the number of the refusal, and then nothing is changed.
 fn number(state: &[u8], bytes: &[u8], out: &[u8]) -> u8
     ensures { λ r. ⌜ r ≡ number (now (state .entry)) (now (bytes .entry)) (now (out .entry)) ⌝ }
 {
     if state.len() != 64 {
-        return 2;
+        return WRONG_LENGTH;
     }
     if out.len() != bytes.len() {
-        return 2;
+        return WRONG_LENGTH;
     }
-    if bytes.len() <= 65536 { 0 } else { 9 }
+    if bytes.len() <= 65536 { 0 } else { TOO_LONG }
 }
 
+// Absorbs the bytes.
 pub fn put(state: &mut [u8], bytes: &[u8], domain: u8) -> u8
     ensures { λ r. ⌜ Put domain (now (bytes .entry)) (now (state .entry)) r (now (state .exit)) ⌝ }
 {
@@ -150,6 +165,7 @@ pub fn put(state: &mut [u8], bytes: &[u8], domain: u8) -> u8
     0
 }
 
+// Squeezes out as many bytes as `out` has.
 pub fn get(state: &mut [u8], out: &mut [u8], domain: u8) -> u8
     ensures { λ r. ⌜ Ran get domain (now (out .entry)) (now (state .entry)) (now (out .entry)) r (now (state .exit)) (now (out .exit)) ⌝ }
 {
@@ -174,12 +190,14 @@ fn through(way: Way, state: &mut [u8], bytes: &[u8], out: &mut [u8], domain: u8)
     0
 }
 
+// Encrypts the message to `out`.
 pub fn enc(state: &mut [u8], message: &[u8], out: &mut [u8], domain: u8) -> u8
     ensures { λ r. ⌜ Ran enc domain (now (message .entry)) (now (state .entry)) (now (out .entry)) r (now (state .exit)) (now (out .exit)) ⌝ }
 {
     through(Way::Enc, state, message, out, domain)
 }
 
+// Decrypts the ciphertext to `out`.
 pub fn dec(state: &mut [u8], cipher: &[u8], out: &mut [u8], domain: u8) -> u8
     ensures { λ r. ⌜ Ran dec domain (now (cipher .entry)) (now (state .entry)) (now (out .entry)) r (now (state .exit)) (now (out .exit)) ⌝ }
 {

@@ -1,22 +1,15 @@
 -- `sponge::absorb` meets its contract. The invariant of its loop: k groups are met.
 -- Assumes nothing.
-use mathlib.Core.Path.{_≡_, refl, sym, ap, _∙_}
-use mathlib.Core.List.{List}
-use Prim.Native.Nat.{ℕ, _+_, _-_, _*_, _/_, _≤_, _<_}
+use mathlib.Core.Path.{_≡_, ap, _∙_}
+use Prim.Native.Nat.{_+_, _-_, _*_, _≤_}
 use native.Mathlib.Omega.{arith}
 use borrow.Author.Needs.{needs}
-use lib.ListN.{length, take, drop}
-use Rattle.sponge.specs.Blink.{put, kept, group, met}
+use lib.ListN.{length}
+use Rattle.sponge.specs.Blink.{put, kept, met}
 use Rattle.sponge.proofs.Steps.{met-none, met-more, met-last, group-is}
 use Rattle.sponge.proofs.Lengths.{group-length}
 use Rattle.sponge.proofs.absorb.Statement.{statement}
 use Rattle.sponge.proofs.absorb.Tie as tie
-use Rattle.sponge.proofs.absorb.Reads as reads
-use Rattle.sponge.proofs.absorb.Lts as lts
-use Rattle.sponge.proofs.add.Reads as add-reads
-use Rattle.sponge.proofs.between.Reads as between-reads
-use Rattle.sponge.proofs.close.Reads as close-reads
-use Rattle.sponge.proofs.last.Reads as last-reads
 
 abbrev Inv-loop : tie.InvT-loop
 Inv-loop state₀ bytes domain n m k₀ state k = (k ≤ m) × (length state ≡ 64) × (state ≡ met put domain state₀ bytes k)

@@ -1,6 +1,6 @@
 -- `sponge::add` meets its contract. The invariant of its loop: the first k bytes of the group are in the state.
 -- Assumes nothing.
-use mathlib.Core.Path.{_≡_, ap, _∙_}
+use mathlib.Core.Path.{_≡_, ap}
 use Prim.Native.Nat.{ℕ, _-_, _≤_, _<_}
 use native.Mathlib.Omega.{arith}
 use borrow.Author.Needs.{needs}
@@ -10,12 +10,9 @@ use Rattle.laws.specs.Xor.{xor}
 use Rattle.laws.proofs.ListLaws.{front-none, front-seen, front-more}
 use Rattle.permutation.specs.Permutation.{added}
 use Rattle.permutation.proofs.Build.{state-rest}
-use Rattle.sponge.proofs.Rules.{both}
-use Rattle.sponge.proofs.Groups.{added-past}
+use Rattle.sponge.proofs.Groups.{both, added-past}
 use Rattle.sponge.proofs.add.Statement.{statement}
 use Rattle.sponge.proofs.add.Tie as tie
-use Rattle.sponge.proofs.add.Reads as reads
-use Rattle.sponge.proofs.add.Lts as lts
 
 abbrev Inv-loop : tie.InvT-loop
 Inv-loop state₀ group k₀ k-end state k = (k ≤ length group) × (length state ≡ 64) × (state ≡ front k (both state₀ group) state₀)

@@ -1,18 +1,10 @@
 -- `sponge::between` meets its contract: the padding, then π of a state that has 64 bytes.
 -- Assumes nothing.
-use mathlib.Core.Path.{_≡_, ap, _∙_}
 use native.Mathlib.Omega.{arith}
 use borrow.Author.Needs.{needs}
-use borrow.Author.Tests.{eq-eqb}
-use lib.ListN.{length}
-use Rattle.permutation.specs.Permutation.{π}
-use Rattle.sponge.proofs.Turned.{turned}
+use Rattle.sponge.proofs.Answers.{turned}
 use Rattle.sponge.proofs.between.Statement.{statement}
 use Rattle.sponge.proofs.between.Tie as tie
-use Rattle.sponge.proofs.between.Reads as reads
-use Rattle.sponge.proofs.between.Lts as lts
-use Rattle.permutation.proofs.permute.Reads as permute-reads
-use Rattle.sponge.proofs.mark.Reads as mark-reads
 
 mark-requires : tie.Need-mark-requires
 mark-requires c κs = search needs

@@ -1,19 +1,13 @@
 -- `sponge::close` meets its contract: the closing padding, then π of a state that has 64 bytes.
 -- Assumes nothing.
-use mathlib.Core.Path.{_≡_, ap, _∙_}
+use mathlib.Core.Path.{ap, _∙_}
 use native.Mathlib.Omega.{arith}
 use borrow.Author.Needs.{needs}
-use lib.ListN.{length}
 use Rattle.laws.specs.Xor.{xor}
-use Rattle.permutation.specs.Permutation.{π}
 use Rattle.sponge.specs.Blink.{into}
-use Rattle.sponge.proofs.Turned.{turned}
+use Rattle.sponge.proofs.Answers.{turned}
 use Rattle.sponge.proofs.close.Statement.{statement}
 use Rattle.sponge.proofs.close.Tie as tie
-use Rattle.sponge.proofs.close.Reads as reads
-use Rattle.sponge.proofs.close.Lts as lts
-use Rattle.permutation.proofs.permute.Reads as permute-reads
-use Rattle.sponge.proofs.mark.Reads as mark-reads
 
 mark-requires : tie.Need-mark-requires
 mark-requires c κs = search needs

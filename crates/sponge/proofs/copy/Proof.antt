@@ -10,8 +10,6 @@ use Rattle.laws.specs.Lists.{front}
 use Rattle.laws.proofs.ListLaws.{front-none, front-more, front-all, listed-own}
 use Rattle.sponge.proofs.copy.Statement.{statement}
 use Rattle.sponge.proofs.copy.Tie as tie
-use Rattle.sponge.proofs.copy.Reads as reads
-use Rattle.sponge.proofs.copy.Lts as lts
 
 rule : List ℕ → ℕ → ℕ
 rule s k = getD s k 0

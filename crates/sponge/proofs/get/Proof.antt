@@ -1,16 +1,10 @@
 -- `sponge::get` meets its contract: refused with the number, or done.
 -- Assumes nothing.
-use mathlib.Core.Path.{_≡_, refl, sym, ap, _∙_}
-use native.Mathlib.Omega.{arith}
+use mathlib.Core.Path.{refl, sym, _∙_}
 use borrow.Author.Needs.{needs}
-use lib.ListN.{length}
 use Rattle.sponge.proofs.Answers.{allowed, ran-refused, ran-done}
 use Rattle.sponge.proofs.get.Statement.{statement}
 use Rattle.sponge.proofs.get.Tie as tie
-use Rattle.sponge.proofs.get.Reads as reads
-use Rattle.sponge.proofs.get.Lts as lts
-use Rattle.sponge.proofs.number.Reads as number-reads
-use Rattle.sponge.proofs.run.Reads as run-reads
 
 number-requires : tie.Need-number-requires
 number-requires c κs = search needs

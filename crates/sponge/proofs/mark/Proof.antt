@@ -6,8 +6,6 @@ use Rattle.laws.specs.Xor.{xor}
 use Rattle.sponge.specs.Blink.{into}
 use Rattle.sponge.proofs.mark.Statement.{statement}
 use Rattle.sponge.proofs.mark.Tie as tie
-use Rattle.sponge.proofs.mark.Reads as reads
-use Rattle.sponge.proofs.mark.Lts as lts
 
 slice-read-state : tie.Need-slice-read-state
 slice-read-state c = search needs

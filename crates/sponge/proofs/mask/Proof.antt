@@ -1,19 +1,16 @@
 -- `sponge::mask` meets its contract. The invariant of its loop: the first k bytes of the group are masked.
 -- Assumes nothing.
 use mathlib.Core.Path.{_≡_, refl, ap, _∙_}
-use Prim.Native.Nat.{ℕ, _-_, _≤_, _<_}
+use Prim.Native.Nat.{_-_, _≤_, _<_}
 use native.Mathlib.Omega.{arith}
 use borrow.Author.Needs.{needs}
 use lib.ListN.{length, getD, length-set}
 use Rattle.laws.specs.Lists.{front}
 use Rattle.laws.specs.Xor.{xor}
 use Rattle.laws.proofs.ListLaws.{front-none, front-seen, front-more, front-all}
-use Rattle.sponge.proofs.Rules.{both}
-use Rattle.sponge.proofs.Groups.{masked-rule}
+use Rattle.sponge.proofs.Groups.{both, masked-rule}
 use Rattle.sponge.proofs.mask.Statement.{statement}
 use Rattle.sponge.proofs.mask.Tie as tie
-use Rattle.sponge.proofs.mask.Reads as reads
-use Rattle.sponge.proofs.mask.Lts as lts
 
 abbrev Inv-loop : tie.InvT-loop
 Inv-loop group₀ state k₀ k-end group k = (k ≤ length group₀) × (length group ≡ length group₀) × (group ≡ front k (both state group₀) group₀)
@@ -54,7 +51,6 @@ same-length : tie.Need-same-length Inv-loop μ-loop
 same-length c = search needs
 
 returns : tie.Need-returns Inv-loop μ-loop
-unfolding both
 returns c =
     let a = c .before .before .args in
     front-all _ _ _ _ _ (c .before .loop .inv .2) refl (omega arith) ∙ masked-rule (a .group .now) (a .state .now) (omega arith)

@@ -5,8 +5,6 @@ use Rattle.permutation.specs.Permutation.{whole}
 use Rattle.sponge.specs.Blink.{number}
 use Rattle.sponge.proofs.number.Statement.{statement}
 use Rattle.sponge.proofs.number.Tie as tie
-use Rattle.sponge.proofs.number.Reads as reads
-use Rattle.sponge.proofs.number.Lts as lts
 
 returns : tie.Need-returns
 unfolding number whole

@@ -1,16 +1,10 @@
 -- `sponge::put` meets its contract: refused with the number, or done.
 -- Assumes nothing.
-use mathlib.Core.Path.{_≡_, refl, sym, ap, _∙_}
-use native.Mathlib.Omega.{arith}
+use mathlib.Core.Path.{sym, _∙_}
 use borrow.Author.Needs.{needs}
-use lib.ListN.{length}
 use Rattle.sponge.proofs.Answers.{allowed, put-refused, put-done}
 use Rattle.sponge.proofs.put.Statement.{statement}
 use Rattle.sponge.proofs.put.Tie as tie
-use Rattle.sponge.proofs.put.Reads as reads
-use Rattle.sponge.proofs.put.Lts as lts
-use Rattle.sponge.proofs.absorb.Reads as absorb-reads
-use Rattle.sponge.proofs.number.Reads as number-reads
 
 number-requires : tie.Need-number-requires
 number-requires c κs = search needs

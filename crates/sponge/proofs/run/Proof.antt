@@ -1,23 +1,17 @@
 -- `sponge::run` meets its contract. The invariant of its loop: k groups are done, the rest of the buffer stands.
 -- Assumes nothing.
-use mathlib.Core.Path.{_≡_, refl, sym, ap, _∙_}
-use mathlib.Core.List.{List, _++_}
-use Prim.Native.Nat.{ℕ, min, _+_, _-_, _*_, _/_, _≤_, _<_}
+use mathlib.Core.Path.{_≡_, refl, ap, _∙_}
+use mathlib.Core.List.{_++_}
+use Prim.Native.Nat.{ℕ, min, _+_, _-_, _*_, _≤_}
 use native.Mathlib.Omega.{arith}
 use borrow.Author.Needs.{needs}
-use lib.ListN.{length, take, drop}
-use Rattle.sponge.specs.Blink.{kept, group, met, gave}
+use lib.ListN.{length, drop}
+use Rattle.sponge.specs.Blink.{met, gave}
 use Rattle.sponge.specs.Ways.{opOf}
 use Rattle.sponge.proofs.Steps.{met-none, gave-none, met-more, met-last, part-is, gave-more, gave-last, way-gives}
 use Rattle.sponge.proofs.Lengths.{group-length}
 use Rattle.sponge.proofs.run.Statement.{statement}
 use Rattle.sponge.proofs.run.Tie as tie
-use Rattle.sponge.proofs.run.Reads as reads
-use Rattle.sponge.proofs.run.Lts as lts
-use Rattle.sponge.proofs.between.Reads as between-reads
-use Rattle.sponge.proofs.close.Reads as close-reads
-use Rattle.sponge.proofs.last.Reads as last-reads
-use Rattle.sponge.proofs.work.Reads as work-reads
 
 abbrev Inv-loop : tie.InvT-loop
 Inv-loop way state₀ io₀ domain n m k₀ state io k =

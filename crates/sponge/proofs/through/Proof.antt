@@ -1,17 +1,11 @@
 -- `sponge::through` meets its contract: refused with the number, or done.
 -- Assumes nothing.
-use mathlib.Core.Path.{_≡_, refl, sym, ap, _∙_}
+use mathlib.Core.Path.{sym, _∙_}
 use native.Mathlib.Omega.{arith}
 use borrow.Author.Needs.{needs}
-use lib.ListN.{length}
 use Rattle.sponge.proofs.Answers.{allowed, ran-refused, ran-done, copied}
 use Rattle.sponge.proofs.through.Statement.{statement}
 use Rattle.sponge.proofs.through.Tie as tie
-use Rattle.sponge.proofs.through.Reads as reads
-use Rattle.sponge.proofs.through.Lts as lts
-use Rattle.sponge.proofs.copy.Reads as copy-reads
-use Rattle.sponge.proofs.number.Reads as number-reads
-use Rattle.sponge.proofs.run.Reads as run-reads
 
 number-requires : tie.Need-number-requires
 number-requires c κs = search needs

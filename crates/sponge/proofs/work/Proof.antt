@@ -1,24 +1,19 @@
 -- `sponge::work` meets its contract, way by way.
 -- Assumes nothing.
-use mathlib.Core.Path.{_≡_, refl, sym, ap, ap₂, _∙_}
+use mathlib.Core.Path.{_≡_, refl, ap, _∙_}
 use mathlib.Core.List.{List}
 use Prim.Native.Nat.{ℕ, _≤_}
 use native.Mathlib.Omega.{arith}
 use borrow.Author.Needs.{needs}
 use lib.ListN.{length, take}
 use Rattle.permutation.specs.Permutation.{added}
-use Rattle.sponge.specs.Blink.{Op, get, enc, dec, kept, given}
+use Rattle.sponge.specs.Blink.{kept, given}
 use Rattle.sponge.specs.Ways.{opOf, Worked}
 use Rattle.sponge.specs.declared.Way.{Way}
 use Rattle.sponge.specs.declared.Way.the-variants.{Get, Enc, Dec}
 use Rattle.sponge.proofs.Groups.{added-masked}
 use Rattle.sponge.proofs.work.Statement.{statement}
 use Rattle.sponge.proofs.work.Tie as tie
-use Rattle.sponge.proofs.work.Reads as reads
-use Rattle.sponge.proofs.work.Lts as lts
-use Rattle.sponge.proofs.add.Reads as add-reads
-use Rattle.sponge.proofs.copy.Reads as copy-reads
-use Rattle.sponge.proofs.mask.Reads as mask-reads
 
 module _ (way : Way) (g v v′ g′ : List ℕ) where
   worked-get : way ≡ Get → v′ ≡ v → g′ ≡ take (length g) v → Worked (opOf way) g v v′ g′
