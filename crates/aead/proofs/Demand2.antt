@@ -1,6 +1,6 @@
 -- Demand 2: opening what was sealed gives the message back, and nothing else opens; over the definitions, then at the calls.
 -- Assumes nothing.
-use mathlib.Core.Path.{_≡_, refl, sym, ap, _∙_}
+use mathlib.Core.Path.{_≡_, sym, ap, _∙_}
 use mathlib.Core.Bool.{true}
 use mathlib.Core.List.{List, _++_}
 use Prim.Native.Nat.{ℕ, _+_, _-_}
@@ -33,71 +33,71 @@ module _
     (out-dec-enc : (domain : ℕ) (v p : List ℕ) → length v ≡ 64 → out dec domain v (out enc domain v p) ≡ p)
     (after-enc-dec : (domain : ℕ) (v c : List ℕ) → length v ≡ 64 → after enc domain v (out dec domain v c) ≡ after dec domain v c)
     (out-enc-dec : (domain : ℕ) (v c : List ℕ) → length v ≡ 64 → out enc domain v (out dec domain v c) ≡ c)
-    where
-  -- ---- from a state v: the two parts of what is sealed, and the way back
-  sealed-cipher : (v p : List ℕ) → length v ≡ 64 → cipherOf (sealedFrom v p) ≡ out enc 0x50 v p
-  unfolding cipherOf sealedFrom
-  sealed-cipher v p h = take-at (out enc 0x50 v p) _ _ (out-length-enc 0x50 v p h ∙ sealed-seam v p h)
+  where
+    -- ---- from a state v: the two parts of what is sealed, and the way back
+    sealed-cipher : (v p : List ℕ) → length v ≡ 64 → cipherOf (sealedFrom v p) ≡ out enc 0x50 v p
+    unfolding cipherOf sealedFrom
+    sealed-cipher v p h = take-at (out enc 0x50 v p) _ _ (out-length-enc 0x50 v p h ∙ sealed-seam v p h)
 
-  sealed-tag : (v p : List ℕ) → length v ≡ 64 → tagOf (sealedFrom v p) ≡ take 16 (after enc 0x50 v p)
-  unfolding tagOf sealedFrom
-  sealed-tag v p h = drop-at (out enc 0x50 v p) _ _ (out-length-enc 0x50 v p h ∙ sealed-seam v p h)
+    sealed-tag : (v p : List ℕ) → length v ≡ 64 → tagOf (sealedFrom v p) ≡ take 16 (after enc 0x50 v p)
+    unfolding tagOf sealedFrom
+    sealed-tag v p h = drop-at (out enc 0x50 v p) _ _ (out-length-enc 0x50 v p h ∙ sealed-seam v p h)
 
-  from-fits : (v p : List ℕ) → length v ≡ 64 → fitsFrom v (sealedFrom v p) ≡ true
-  unfolding fitsFrom
-  from-fits v p h = rw (sealed-cipher v p h, sealed-tag v p h, after-dec-enc 0x50 v p h) (same-refl (take 16 (after enc 0x50 v p)))
+    from-fits : (v p : List ℕ) → length v ≡ 64 → fitsFrom v (sealedFrom v p) ≡ true
+    unfolding fitsFrom
+    from-fits v p h = rw (sealed-cipher v p h, sealed-tag v p h, after-dec-enc 0x50 v p h) (same-refl (take 16 (after enc 0x50 v p)))
 
-  from-back : (v p : List ℕ) → length v ≡ 64 → openedFrom v (sealedFrom v p) ≡ p
-  unfolding openedFrom
-  from-back v p h = rw (sealed-cipher v p h) (out-dec-enc 0x50 v p h)
+    from-back : (v p : List ℕ) → length v ≡ 64 → openedFrom v (sealedFrom v p) ≡ p
+    unfolding openedFrom
+    from-back v p h = rw (sealed-cipher v p h) (out-dec-enc 0x50 v p h)
 
-  from-only : (v t : List ℕ) → length v ≡ 64 → fitsFrom v t ≡ true → t ≡ sealedFrom v (openedFrom v t)
-  unfolding fitsFrom openedFrom sealedFrom
-  from-only v t h e =
-      sym (rw (out-enc-dec 0x50 v (cipherOf t) h, after-enc-dec 0x50 v (cipherOf t) h, same-true (take 16 (after dec 0x50 v (cipherOf t))) (tagOf t) e) (parts-join t))
+    from-only : (v t : List ℕ) → length v ≡ 64 → fitsFrom v t ≡ true → t ≡ sealedFrom v (openedFrom v t)
+    unfolding fitsFrom openedFrom sealedFrom
+    from-only v t h e =
+        sym (rw (out-enc-dec 0x50 v (cipherOf t) h, after-enc-dec 0x50 v (cipherOf t) h, same-true (take 16 (after dec 0x50 v (cipherOf t))) (tagOf t) e) (parts-join t))
 
-  -- ---- opening what was sealed gives the message back, whatever the lists, the empty message too
-  pub open-seal : (k n a p : List ℕ) → (fits k n a (sealed k n a p) ≡ true) × (opened k n a (sealed k n a p) ≡ p)
-  unfolding fits opened sealed
-  open-seal k n a p = (from-fits (keyed k n a) p (keyed-length k n a), from-back (keyed k n a) p (keyed-length k n a))
+    -- ---- opening what was sealed gives the message back, whatever the lists, the empty message too
+    pub open-seal : (k n a p : List ℕ) → (fits k n a (sealed k n a p) ≡ true) × (opened k n a (sealed k n a p) ≡ p)
+    unfolding fits opened sealed
+    open-seal k n a p = (from-fits (keyed k n a) p (keyed-length k n a), from-back (keyed k n a) p (keyed-length k n a))
 
-  -- ---- what opens is the sealing of what it opens to
-  pub opens-only-sealed : (k n a t : List ℕ) → fits k n a t ≡ true → t ≡ sealed k n a (opened k n a t)
-  unfolding fits opened sealed
-  opens-only-sealed k n a t e = from-only (keyed k n a) t (keyed-length k n a) e
+    -- ---- what opens is the sealing of what it opens to
+    pub opens-only-sealed : (k n a t : List ℕ) → fits k n a t ≡ true → t ≡ sealed k n a (opened k n a t)
+    unfolding fits opened sealed
+    opens-only-sealed k n a t e = from-only (keyed k n a) t (keyed-length k n a) e
 
-  -- so t opens exactly if it is the sealing of some p, and then it opens to that p
-  pub opens-exactly : (k n a t : List ℕ) → OpensExactly k n a t
-  opens-exactly k n a t =
-      record {
-        only = λ e. (opened k n a t, opens-only-sealed k n a t e);
-        every = λ p e.
-          let s = open-seal k n a p in
-          (ap (fits k n a) e ∙ s .0, ap (opened k n a) e ∙ s .1);
-      }
+    -- so t opens exactly if it is the sealing of some p, and then it opens to that p
+    pub opens-exactly : (k n a t : List ℕ) → OpensExactly k n a t
+    opens-exactly k n a t =
+        record {
+          only = λ e. (opened k n a t, opens-only-sealed k n a t e);
+          every = λ p e.
+              let s = open-seal k n a p in
+              (ap (fits k n a) e ∙ s .0, ap (opened k n a) e ∙ s .1);
+        }
 
-  -- two messages have two sealings
-  pub seal-injective : (k n a p q : List ℕ) → sealed k n a p ≡ sealed k n a q → p ≡ q
-  seal-injective k n a p q e = sym (open-seal k n a p .1) ∙ ap (opened k n a) e ∙ open-seal k n a q .1
+    -- two messages have two sealings
+    pub seal-injective : (k n a p q : List ℕ) → sealed k n a p ≡ sealed k n a q → p ≡ q
+    seal-injective k n a p q e = sym (open-seal k n a p .1) ∙ ap (opened k n a) e ∙ open-seal k n a q .1
 
-  -- ---- at the calls: a text that an accepting call of open was given is the sealing of what it left
-  pub opened-sealed : {k n a t q q′ : List ℕ} → Opened k n a t q 0 q′ → t ≡ sealed k n a q′
-  opened-sealed {k} {n} {a} {t} {q} {q′} c =
-      let d = open-accepted c in
-      opens-only-sealed k n a t (d .fit) ∙ ap (sealed k n a) (sym (d .bytes))
+    -- ---- at the calls: a text that an accepting call of open was given is the sealing of what it left
+    pub opened-sealed : {k n a t q q′ : List ℕ} → Opened k n a t q 0 q′ → t ≡ sealed k n a q′
+    opened-sealed {k} {n} {a} {t} {q} {q′} c =
+        let d = open-accepted c in
+        opens-only-sealed k n a t (d .fit) ∙ ap (sealed k n a) (sym (d .bytes))
 
-  -- and what sealing gives for p, sizes and limits kept, is accepted, and p is what is left
-  pub sealed-opened : {k n a t q q′ : List ℕ} {r : ℕ} (p : List ℕ) → Sizes k n (length t) (length q) → Limits a (length q) → t ≡ sealed k n a p → Opened k n a t q r q′
-      → (r ≡ 0) × (q′ ≡ p)
-  sealed-opened {k} {n} {a} {t} {q} {q′} {r} p s l e c =
-      let x = opens-exactly k n a t .every p e in
-      let d = open-takes s l (x .0) c in
-      (d .0, d .1 ∙ x .1)
+    -- and what sealing gives for p, sizes and limits kept, is accepted, and p is what is left
+    pub sealed-opened : {k n a t q q′ : List ℕ} {r : ℕ} (p : List ℕ) → Sizes k n (length t) (length q) → Limits a (length q) → t ≡ sealed k n a p → Opened k n a t q r q′
+        → (r ≡ 0) × (q′ ≡ p)
+    sealed-opened {k} {n} {a} {t} {q} {q′} {r} p s l e c =
+        let x = opens-exactly k n a t .every p e in
+        let d = open-takes s l (x .0) c in
+        (d .0, d .1 ∙ x .1)
 
-  -- seal, then open into a buffer of the message's length
-  pub seal-then-open : {k n a p o o′ q q′ : List ℕ} {r : ℕ} → Sealed k n a p o 0 o′ → length q ≡ length p → Opened k n a o′ q r q′ → (r ≡ 0) × (q′ ≡ p)
-  seal-then-open {k} {n} {a} {p} {o} {o′} {q} c h d =
-      let w = seal-accepted c in
-      let e : length o′ ≡ length q + 16 = ap length (w .bytes) ∙ sealed-length k n a p ∙ omega arith in
-      sealed-opened p (record { key24 = w .sizes .key24; nonce16 = w .sizes .nonce16; more16 = e })
-      (record { associated-most = w .limits .associated-most; short-most = omega (arith, w .limits .short-most) }) (w .bytes) d
+    -- seal, then open into a buffer of the message's length
+    pub seal-then-open : {k n a p o o′ q q′ : List ℕ} {r : ℕ} → Sealed k n a p o 0 o′ → length q ≡ length p → Opened k n a o′ q r q′ → (r ≡ 0) × (q′ ≡ p)
+    seal-then-open {k} {n} {a} {p} {o} {o′} {q} c h d =
+        let w = seal-accepted c in
+        let e : length o′ ≡ length q + 16 = ap length (w .bytes) ∙ sealed-length k n a p ∙ omega arith in
+        sealed-opened p (record { key24 = w .sizes .key24; nonce16 = w .sizes .nonce16; more16 = e })
+        (record { associated-most = w .limits .associated-most; short-most = omega (arith, w .limits .short-most) }) (w .bytes) d

@@ -4,7 +4,7 @@ use mathlib.Core.Path.{_≡_, refl, sym, ap, _∙_}
 use mathlib.Core.Bool.{Bool, true, false, _&&_}
 use mathlib.Core.List.{List}
 use Prim.Native.Nat.{ℕ, zero, suc, _+_, _<_}
-use native.Mathlib.Nat.{le-of-suc-le-suc, not-suc-le-zero}
+use native.Mathlib.Nat.{not-suc-le-zero}
 use native.Mathlib.Numerals.{add-one}
 use native.Mathlib.Omega.{arith}
 use mathlib.Core.Logic.{⊎-elim}
@@ -44,7 +44,7 @@ same-at a b zero e k h = absurd (not-suc-le-zero h)
 same-at a b (suc n) e k h =
     ⊎-elim (λ l. same-at a b n (both-left (sameTo a b n) _ e) k l)
     (λ l. let q : k ≡ n = omega arith in
-      ap (λ (m : ℕ). getD a m 0) q ∙ eqb-true (getD a n 0) (getD b n 0) (both-right (sameTo a b n) _ e) ∙ ap (λ (m : ℕ). getD b m 0) (sym q)) (lt-or-ge k n)
+    ap (λ (m : ℕ). getD a m 0) q ∙ eqb-true (getD a n 0) (getD b n 0) (both-right (sameTo a b n) _ e) ∙ ap (λ (m : ℕ). getD b m 0) (sym q)) (lt-or-ge k n)
 
 same-self : (a : List ℕ) (n : ℕ) → sameTo a a n ≡ true
 unfolding sameTo

@@ -1,14 +1,14 @@
 -- A list laid over another from an index on: lists laid behind one another, parts that come back, one turn of a loop that fills.
 -- Assumes nothing.
-use mathlib.Core.Path.{_≡_, refl, sym, ap, _∙_}
+use mathlib.Core.Path.{_≡_, sym, ap, _∙_}
 use mathlib.Core.List.{List, [], _∷_, _++_, append-assoc, append-nil}
-use Prim.Native.Nat.{ℕ, zero, suc, _+_, _-_, _≤_, _<_}
+use Prim.Native.Nat.{ℕ, suc, _+_, _-_, _≤_, _<_}
 use native.Mathlib.Nat.{add-zero, zero-add, add-assoc}
 use native.Mathlib.Omega.{arith}
 use lib.ListN.{length, take, drop, length-append, length-take, length-drop, take-append-drop, drop-of-length-le}
 use lib.ListN.{set, getD}
 use native.Mathlib.Numerals.{add-one}
-use lib.Seq.{set-at, drop-cons, take-at, drop-at, drop-drop, take-all, length-take-le}
+use lib.Seq.{set-at, drop-cons, take-at, drop-at, drop-drop, take-all}
 use Rattle.laws.specs.Lists.{splice}
 
 pub splice-nil : (l : List ℕ) (at : ℕ) → splice l at [] ≡ l

@@ -1,6 +1,6 @@
 -- What a call leaves where it is not refused; an operation leaves a whole state.
 -- Assumes nothing.
-use mathlib.Core.Path.{_≡_, refl, ap, _∙_}
+use mathlib.Core.Path.{_≡_, refl, _∙_}
 use mathlib.Core.List.{List}
 use Prim.Native.Nat.{ℕ, _≤_}
 use borrow.Author.Tests.{eq-eqb, le-leb}

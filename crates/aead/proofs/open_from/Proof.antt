@@ -1,11 +1,10 @@
 -- `aead::open_from` meets its contract: dec of all but the tag, then the tag compared.
 -- Assumes nothing.
 use borrow.Author.Tests.{not-true, not-false}
-use mathlib.Core.Path.{_≡_, sym, ap, _∙_}
-use mathlib.Core.List.{List}
-use Prim.Native.Nat.{ℕ, _≤_}
+use mathlib.Core.Path.{sym, ap, _∙_}
+use Prim.Native.Nat.{ℕ}
 use native.Mathlib.Omega.{arith}
-use lib.ListN.{length, replicate}
+use lib.ListN.{replicate}
 use lib.Seq.{length-take-le}
 use Rattle.aead.proofs.Runs.{dec-opened, dec-fits}
 use borrow.Author.Needs.{needs}
@@ -51,9 +50,10 @@ returns : tie.Need-returns
 returns c =
     let t = c .before .before .before .before in
     let d = t .before .before .before .before .before .before .before in
-    let s = d .before .before .before .before .before .before in
-    (dec-fits (s .args .sealed .now) (s .args .out .now) (s .pre .0) (s .pre .1) (s .pre .2) (d .dec .ensures) _ (t .before .same .ensures),
-    rw (not-true (t .before .same .result) (t .if1 .taken)) (c .before .before .zero .ensures ∙ ap (λ (n : ℕ). replicate n 0) (d .dec .kept .1 .1 .0)))
+    let s = d .before .before .before .before .before .before in (
+      dec-fits (s .args .sealed .now) (s .args .out .now) (s .pre .0) (s .pre .1) (s .pre .2) (d .dec .ensures) _ (t .before .same .ensures),
+      rw (not-true (t .before .same .result) (t .if1 .taken)) (c .before .before .zero .ensures ∙ ap (λ (n : ℕ). replicate n 0) (d .dec .kept .1 .1 .0)),
+    )
 
 same-length-2 : tie.Need-same-length-2
 same-length-2 c = search needs
@@ -61,9 +61,10 @@ same-length-2 c = search needs
 returns-2 : tie.Need-returns-2
 returns-2 c =
     let d = c .before .before .before .before .before .before .before in
-    let s = d .before .before .before .before .before .before in
-    (dec-fits (s .args .sealed .now) (s .args .out .now) (s .pre .0) (s .pre .1) (s .pre .2) (d .dec .ensures) _ (c .before .same .ensures),
-    rw (not-false (c .before .same .result) (c .if1 .left)) (dec-opened (s .args .sealed .now) (s .args .out .now) (s .pre .0) (s .pre .1) (s .pre .2) (d .dec .ensures)))
+    let s = d .before .before .before .before .before .before in (
+      dec-fits (s .args .sealed .now) (s .args .out .now) (s .pre .0) (s .pre .1) (s .pre .2) (d .dec .ensures) _ (c .before .same .ensures),
+      rw (not-false (c .before .same .result) (c .if1 .left)) (dec-opened (s .args .sealed .now) (s .args .out .now) (s .pre .0) (s .pre .1) (s .pre .2) (d .dec .ensures)),
+    )
 
 pub open-from-spec : {M : Type 1} → statement M
 open-from-spec =

@@ -1,9 +1,7 @@
 -- `aead::seal_from` meets its contract: enc into the front of `out`, the tag behind it.
 -- Assumes nothing.
-use mathlib.Core.Path.{_≡_, sym}
-use Prim.Native.Nat.{_≤_}
+use mathlib.Core.Path.{sym}
 use native.Mathlib.Omega.{arith}
-use lib.ListN.{length}
 use lib.Seq.{length-take-le}
 use Rattle.aead.proofs.Runs.{enc-sealed}
 use borrow.Author.Needs.{needs}

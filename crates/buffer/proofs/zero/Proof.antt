@@ -32,10 +32,11 @@ loop-less c = search needs
 loop-again : tie.Need-loop-again Inv-loop μ-loop
 loop-again c =
     let l = c .before .loop in
-    let o = c .before .before .args .out .now in
-    (simp length-set (omega arith),
-    ap (λ (q : List ℕ). set q (l .i) 0) (l .inv .1) ∙ fill-more (l .i) 0 o (omega arith),
-    simp length-set (l .inv .2))
+    let o = c .before .before .args .out .now in (
+      simp length-set (omega arith),
+      ap (λ (q : List ℕ). set q (l .i) 0) (l .inv .1) ∙ fill-more (l .i) 0 o (omega arith),
+      simp length-set (l .inv .2),
+    )
 
 same-length : tie.Need-same-length Inv-loop μ-loop
 same-length c = search needs
