@@ -12,7 +12,7 @@ use Rattle.sponge.specs.Blink.{enc, dec, after, out}
 use Rattle.sponge.proofs.OutLength.{out-length-enc}
 use Rattle.aead.specs.Sealing.{keyed, sealedFrom, sealed, cipherOf, tagOf, openedFrom, fitsFrom, opened, fits, Sealed, Opened}
 use Rattle.aead.proofs.Lengths.{Sizes, Limits, keyed-length, sealedFrom-length, sealed-length}
-use Rattle.aead.proofs.Accepted.{seal-accepted, open-accepted, open-takes}
+use Rattle.aead.proofs.Calls.{seal-accepted, open-accepted, open-takes}
 
 -- t opens exactly if it is the sealing of some p, and it opens to that p
 pub record OpensExactly (k n a t : List ℕ) : Type 0 where
@@ -34,7 +34,13 @@ module _
     (after-enc-dec : (domain : ℕ) (v c : List ℕ) → length v ≡ 64 → after enc domain v (out dec domain v c) ≡ after dec domain v c)
     (out-enc-dec : (domain : ℕ) (v c : List ℕ) → length v ≡ 64 → out enc domain v (out dec domain v c) ≡ c)
   where
-    -- ---- from a state v: the two parts of what is sealed, and the way back
+    -- ---- from a state v: what fits is the sealing of what it opens to
+    from-only : (v t : List ℕ) → length v ≡ 64 → fitsFrom v t ≡ true → t ≡ sealedFrom v (openedFrom v t)
+    unfolding fitsFrom openedFrom sealedFrom
+    from-only v t h e =
+        sym (rw (out-enc-dec 0x50 v (cipherOf t) h, after-enc-dec 0x50 v (cipherOf t) h, same-true (take 16 (after dec 0x50 v (cipherOf t))) (tagOf t) e) (parts-join t))
+
+    -- the two parts of what is sealed, and the way back
     sealed-cipher : (v p : List ℕ) → length v ≡ 64 → cipherOf (sealedFrom v p) ≡ out enc 0x50 v p
     unfolding cipherOf sealedFrom
     sealed-cipher v p h = take-at (out enc 0x50 v p) _ _ (out-length-enc 0x50 v p h ∙ sealed-seam v p h)
@@ -50,11 +56,6 @@ module _
     from-back : (v p : List ℕ) → length v ≡ 64 → openedFrom v (sealedFrom v p) ≡ p
     unfolding openedFrom
     from-back v p h = rw (sealed-cipher v p h) (out-dec-enc 0x50 v p h)
-
-    from-only : (v t : List ℕ) → length v ≡ 64 → fitsFrom v t ≡ true → t ≡ sealedFrom v (openedFrom v t)
-    unfolding fitsFrom openedFrom sealedFrom
-    from-only v t h e =
-        sym (rw (out-enc-dec 0x50 v (cipherOf t) h, after-enc-dec 0x50 v (cipherOf t) h, same-true (take 16 (after dec 0x50 v (cipherOf t))) (tagOf t) e) (parts-join t))
 
     -- ---- opening what was sealed gives the message back, whatever the lists, the empty message too
     pub open-seal : (k n a p : List ℕ) → (fits k n a (sealed k n a p) ≡ true) × (opened k n a (sealed k n a p) ≡ p)
