@@ -1,6 +1,6 @@
 -- Demand 2: opening what was sealed gives the message back, and nothing else opens; over the definitions, then at the calls.
 -- Assumes nothing.
-use mathlib.Core.Path.{_≡_, refl, sym, ap, _∙_}
+use mathlib.Core.Path.{_≡_, sym, ap, _∙_}
 use mathlib.Core.Bool.{true}
 use mathlib.Core.List.{List, _++_}
 use Prim.Native.Nat.{ℕ, _+_, _-_}
@@ -13,7 +13,7 @@ use Rattle.sponge.proofs.Lengths.{out-length}
 use Rattle.sponge.proofs.Trips.{dec-after-enc, dec-out-enc, enc-after-dec, enc-out-dec}
 use Rattle.aead.specs.Sealing.{keyed, sealedFrom, sealed, cipherOf, tagOf, openedFrom, fitsFrom, opened, fits, Sealed, Opened}
 use Rattle.aead.proofs.Lengths.{Sizes, Limits, keyed-length, sealedFrom-length, sealed-length}
-use Rattle.aead.proofs.Accepted.{seal-accepted, open-accepted, open-takes}
+use Rattle.aead.proofs.Calls.{seal-accepted, open-accepted, open-takes}
 
 -- t opens exactly if it is the sealing of some p, and it opens to that p
 pub record OpensExactly (k n a t : List ℕ) : Type 0 where
@@ -28,7 +28,13 @@ parts-join t = take-append-drop (length t - 16) t
 sealed-seam : (v p : List ℕ) → length v ≡ 64 → length p ≡ length (sealedFrom v p) - 16
 sealed-seam v p h = omega (arith, sealedFrom-length v p h)
 
--- ---- from a state v: the two parts of what is sealed, and the way back
+-- ---- from a state v: what fits is the sealing of what it opens to
+from-only : (v t : List ℕ) → length v ≡ 64 → fitsFrom v t ≡ true → t ≡ sealedFrom v (openedFrom v t)
+unfolding fitsFrom openedFrom sealedFrom
+from-only v t h e =
+    sym (rw (enc-out-dec 0x50 v h (cipherOf t), enc-after-dec 0x50 v h (cipherOf t), same-true (take 16 (after dec 0x50 v (cipherOf t))) (tagOf t) e) (parts-join t))
+
+-- the two parts of what is sealed, and the way back
 sealed-cipher : (v p : List ℕ) → length v ≡ 64 → cipherOf (sealedFrom v p) ≡ out enc 0x50 v p
 unfolding cipherOf sealedFrom
 sealed-cipher v p h = take-at (out enc 0x50 v p) _ _ (out-length enc tt 0x50 v p h ∙ sealed-seam v p h)
@@ -44,11 +50,6 @@ from-fits v p h = rw (sealed-cipher v p h, sealed-tag v p h, dec-after-enc 0x50 
 from-back : (v p : List ℕ) → length v ≡ 64 → openedFrom v (sealedFrom v p) ≡ p
 unfolding openedFrom
 from-back v p h = rw (sealed-cipher v p h) (dec-out-enc 0x50 v h p)
-
-from-only : (v t : List ℕ) → length v ≡ 64 → fitsFrom v t ≡ true → t ≡ sealedFrom v (openedFrom v t)
-unfolding fitsFrom openedFrom sealedFrom
-from-only v t h e =
-    sym (rw (enc-out-dec 0x50 v h (cipherOf t), enc-after-dec 0x50 v h (cipherOf t), same-true (take 16 (after dec 0x50 v (cipherOf t))) (tagOf t) e) (parts-join t))
 
 -- ---- opening what was sealed gives the message back, whatever the lists, the empty message too
 pub open-seal : (k n a p : List ℕ) → (fits k n a (sealed k n a p) ≡ true) × (opened k n a (sealed k n a p) ≡ p)

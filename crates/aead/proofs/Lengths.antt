@@ -1,16 +1,15 @@
 -- What the tests of the numbers 2 and 9 say of lengths, and the lengths of what sealing and opening give.
 -- Assumes nothing.
 use borrow.Author.Tests.{eqb-true, leb-true, eq-eqb, le-leb}
-use mathlib.Core.Path.{_≡_, refl}
+use mathlib.Core.Path.{_≡_}
 use mathlib.Core.Bool.{true, _&&_}
 use mathlib.Core.List.{List}
-use Prim.Native.Nat.{ℕ, _+_, _-_, _≤_}
+use Prim.Native.Nat.{ℕ, _+_, _≤_}
 use native.Mathlib.Omega.{arith}
 use lib.Dec.{eqb, leb}
-use lib.ListN.{length, take, length-append}
-use lib.Seq.{length-take-le}
+use lib.ListN.{length, length-append, length-take}
 use Rattle.laws.proofs.ChooseLaws.{both-left, both-right}
-use Rattle.sponge.specs.Blink.{enc, dec, put, after, out}
+use Rattle.sponge.specs.Blink.{put, enc}
 use Rattle.sponge.proofs.Lengths.{after-length, out-length}
 use Rattle.aead.specs.Sealing.{keyed, sealedFrom, sealed, sized, limited}
 
@@ -55,9 +54,7 @@ keyed-length key nonce associated = after-length put 0x40 _ associated
 
 pub sealedFrom-length : (v message : List ℕ) → length v ≡ 64 → length (sealedFrom v message) ≡ length message + 16
 unfolding sealedFrom
-sealedFrom-length v message h =
-    let l : length (take 16 (after enc 0x50 v message)) ≡ 16 = length-take-le 16 (after enc 0x50 v message) (omega (arith, after-length enc 0x50 v message)) in
-    omega (arith, length-append (out enc 0x50 v message) (take 16 (after enc 0x50 v message)), out-length enc tt 0x50 v message h)
+sealedFrom-length v message h = simp (length-append, length-take, after-length, out-length enc tt) (omega arith)
 
 pub sealed-length : (key nonce associated message : List ℕ) → length (sealed key nonce associated message) ≡ length message + 16
 unfolding sealed

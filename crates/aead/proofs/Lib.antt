@@ -2,6 +2,6 @@
 pub mod Lengths
 pub mod Runs
 pub mod Answers
-pub mod Accepted
+pub mod Calls
 pub mod Demand2
 pub mod Unique

@@ -1,6 +1,6 @@
 -- What the calls of the block operations leave is what sealing and opening are.
 -- Assumes nothing.
-use mathlib.Core.Path.{_≡_, refl, sym, ap, ap₂, _∙_}
+use mathlib.Core.Path.{_≡_, sym, ap, ap₂, _∙_}
 use mathlib.Core.Bool.{Bool}
 use mathlib.Core.List.{List, _++_}
 use Prim.Native.Nat.{ℕ, _+_, _-_, _≤_}
@@ -17,19 +17,19 @@ use Rattle.aead.specs.Sealing.{sealedFrom, cipherOf, tagOf, openedFrom, 
 -- enc into the front of o, then the state's first 16 bytes copied over the rest
 module _ {r : ℕ} {v v′ e : List ℕ} (m o : List ℕ) (h : length v ≡ 64) (l : length m ≤ 65520) (k : length o ≡ length m + 16)
     (p : Ran enc 0x50 m v (take (length m) o) r v′ e) where
-  pub enc-left : v′ ≡ after enc 0x50 v m
+  enc-left : v′ ≡ after enc 0x50 v m
   enc-left = ran-state p h (length-take-le (length m) o (omega arith)) (omega arith)
 
-  pub enc-gave : e ≡ out enc 0x50 v m
+  enc-gave : e ≡ out enc 0x50 v m
   enc-gave = ran-bytes p h (length-take-le (length m) o (omega arith)) (omega arith)
 
-  pub enc-sealed : {b : List ℕ} → b ≡ splice (take (length (e ++ drop (length m) o) - length m) (drop (length m) (e ++ drop (length m) o))) 0 (take (length (take (length (e ++ drop (length m) o) - length m) (drop (length m) (e ++ drop (length m) o)))) (take 16 v′))
-      → take (length m) (e ++ drop (length m) o) ++ (b ++ drop (length (e ++ drop (length m) o) - length m) (drop (length m) (e ++ drop (length m) o))) ≡ sealedFrom v m
+  pub enc-sealed : {w part b : List ℕ} → w ≡ e ++ drop (length m) o → part ≡ take (length w - length m) (drop (length m) w)
+      → b ≡ splice part 0 (take (length part) (take 16 v′)) → take (length m) w ++ (b ++ drop (length w - length m) (drop (length m) w)) ≡ sealedFrom v m
   unfolding sealedFrom
-  enc-sealed {b = b} q =
+  enc-sealed f g q =
       let n : length v′ ≡ 64 = ap length enc-left ∙ after-length enc 0x50 v m in
-      let w : length (take 16 v′) ≡ 16 = length-take-le 16 v′ (omega arith) in
-      splice-two o e (take 16 v′) b (length m) (ap length enc-gave ∙ out-length enc tt 0x50 v m h) (omega arith) q
+      let t : length (take 16 v′) ≡ 16 = length-take-le 16 v′ (omega arith) in
+      splice-two o e (take 16 v′) (length m) (ap length enc-gave ∙ out-length enc tt 0x50 v m h) (omega arith) f g q
       ∙ ap₂ (λ (x y : List ℕ). x ++ take 16 y) enc-gave enc-left
 
 -- dec of all but the last 16 bytes of t, then the state's first 16 compared with those

@@ -1,8 +1,8 @@
 -- A list laid over another from an index on: lists laid behind one another, parts that come back, one turn of a loop that fills.
 -- Assumes nothing.
-use mathlib.Core.Path.{_≡_, refl, sym, ap, _∙_}
+use mathlib.Core.Path.{_≡_, sym, ap, ap₂, _∙_}
 use mathlib.Core.List.{List, [], _∷_, _++_, append-assoc, append-nil}
-use Prim.Native.Nat.{ℕ, zero, suc, _+_, _-_, _≤_, _<_}
+use Prim.Native.Nat.{ℕ, suc, _+_, _-_, _≤_, _<_}
 use native.Mathlib.Nat.{add-zero, zero-add, add-assoc}
 use native.Mathlib.Omega.{arith}
 use lib.ListN.{length, take, drop, length-append, length-take, length-drop, take-append-drop, drop-of-length-le}
@@ -127,15 +127,14 @@ splice-tail e d w n h k =
     let l : length (e ++ d) ≤ n + length w = omega (arith, length-append e d) in
     rw (take-at e d n h, drop-of-length-le (e ++ d) l, append-nil)
 
--- two parts of one list, the front up to n and the rest, that come back as e and as w laid over the rest
-pub splice-two : (o e w b : List ℕ) (n : ℕ) → length e ≡ n → length o ≡ n + length w
-    → b ≡ splice (take (length (e ++ drop n o) - n) (drop n (e ++ drop n o))) 0 (take (length (take (length (e ++ drop n o) - n) (drop n (e ++ drop n o)))) w)
-    → take n (e ++ drop n o) ++ (b ++ drop (length (e ++ drop n o) - n) (drop n (e ++ drop n o))) ≡ e ++ w
-splice-two o e w b n h k q =
-    let l = e ++ drop n o in
+-- a list o whose front, n elements, came back as e, and whose rest, the part, came back as b with w laid over it
+pub splice-two : (o e w : List ℕ) (n : ℕ) {l part b : List ℕ} → length e ≡ n → length o ≡ n + length w → l ≡ e ++ drop n o → part ≡ take (length l - n) (drop n l)
+    → b ≡ splice part 0 (take (length part) w) → take n l ++ (b ++ drop (length l - n) (drop n l)) ≡ e ++ w
+splice-two o e w n {l = l} {part = part} h k f g q =
     let d : length (drop n o) ≡ length w = simp length-drop (omega arith) in
-    let m : length l ≡ n + length w = length-append e (drop n o) ∙ omega arith in
-    let r : length w ≤ length (take (length l - n) (drop n l)) = simp (length-take, length-drop) (omega arith) in
-    ap (λ (x : List ℕ). take n l ++ (x ++ drop (length l - n) (drop n l))) (q ∙ ap (splice (take (length l - n) (drop n l)) 0) (take-all _ w r))
+    let m : length l ≡ n + length w = ap length f ∙ length-append e (drop n o) ∙ omega arith in
+    let r : length w ≤ length part = rw g (simp (length-take, length-drop) (omega arith)) in
+    ap (λ (x : List ℕ). take n l ++ (x ++ drop (length l - n) (drop n l))) (q ∙ ap₂ (λ (x y : List ℕ). splice x 0 y) g (take-all (length part) w r))
     ∙ splice-part l n w (omega arith)
+    ∙ ap (λ (x : List ℕ). splice x n w) f
     ∙ splice-tail e (drop n o) w n h d

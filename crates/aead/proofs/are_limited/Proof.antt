@@ -1,7 +1,6 @@
 -- `aead::are_limited` meets its contract: its tests, one after the other.
 -- Assumes nothing.
 use borrow.Author.Tests.{le-leb, lt-leb}
-use mathlib.Core.Path.{refl}
 use Rattle.aead.specs.Sealing.{limited}
 use Rattle.aead.proofs.are_limited.Statement.{statement}
 use Rattle.aead.proofs.are_limited.Tie as tie

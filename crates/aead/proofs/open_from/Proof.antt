@@ -1,11 +1,10 @@
 -- `aead::open_from` meets its contract: dec of all but the tag, then the tag compared.
 -- Assumes nothing.
 use borrow.Author.Tests.{not-true, not-false}
-use mathlib.Core.Path.{_≡_, sym, ap, _∙_}
-use mathlib.Core.List.{List}
-use Prim.Native.Nat.{ℕ, _≤_}
+use mathlib.Core.Path.{sym, ap, _∙_}
+use Prim.Native.Nat.{ℕ}
 use native.Mathlib.Omega.{arith}
-use lib.ListN.{length, replicate}
+use lib.ListN.{replicate}
 use lib.Seq.{length-take-le}
 use Rattle.aead.proofs.Runs.{dec-opened, dec-fits}
 use borrow.Author.Needs.{needs}

@@ -1,9 +1,7 @@
 -- `aead::seal_from` meets its contract: enc into the front of `out`, the tag behind it.
 -- Assumes nothing.
-use mathlib.Core.Path.{_≡_, sym}
-use Prim.Native.Nat.{_≤_}
+use mathlib.Core.Path.{refl, sym}
 use native.Mathlib.Omega.{arith}
-use lib.ListN.{length}
 use lib.Seq.{length-take-le}
 use Rattle.aead.proofs.Runs.{enc-sealed}
 use borrow.Author.Needs.{needs}
@@ -49,7 +47,7 @@ returns : tie.Need-returns
 returns c =
     let e = c .before .before .before .before .before .before .before .before in
     let s = e .before .before .before .before .before in
-    enc-sealed (s .args .message .now) (s .args .out .now) (s .pre .0) (s .pre .1) (s .pre .2) (e .enc .ensures) (c .before .before .copy .ensures)
+    enc-sealed (s .args .message .now) (s .args .out .now) (s .pre .0) (s .pre .1) (s .pre .2) (e .enc .ensures) refl refl (c .before .before .copy .ensures)
 
 pub seal-from-spec : {M : Type 1} → statement M
 seal-from-spec =

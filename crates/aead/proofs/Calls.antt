@@ -1,9 +1,9 @@
 -- What an accepted call says, when a call is accepted, and what open's 7 leaves.
 -- Assumes nothing.
-use mathlib.Core.Path.{_≡_, refl, sym, _∙_}
-use mathlib.Core.Bool.{Bool, true}
+use mathlib.Core.Path.{_≡_, sym, _∙_}
+use mathlib.Core.Bool.{true}
 use mathlib.Core.List.{List}
-use Prim.Native.Nat.{ℕ, _+_}
+use Prim.Native.Nat.{ℕ}
 use lib.ListN.{length, replicate}
 use Rattle.laws.proofs.ChooseLaws.{no-refusal}
 use Rattle.aead.specs.Sealing.{sealed, opened, fits, sized, limited, sealNumber, openNumber, sealLeaves, openLeaves, Sealed, Opened}
