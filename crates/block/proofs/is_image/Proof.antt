@@ -1,20 +1,22 @@
-use borrow.Author.Needs.{needs}
+-- `block::is_image` meets its contract: its tests, one after the other.
+-- Assumes nothing.
+use borrow.Author.Tests.{eq-eqb, ne-eqb, le-leb, lt-leb}
+use mathlib.Core.Path.{refl}
+use Rattle.block.specs.Image.{sizeOk}
 use Rattle.block.proofs.is_image.Statement.{statement}
 use Rattle.block.proofs.is_image.Tie as tie
-use Rattle.block.proofs.is_image.Reads as reads
-use Rattle.block.proofs.is_image.Lts as lts
 
--- src/lib.rt:36:9
 returns : tie.Need-returns
-returns c = search needs
+unfolding sizeOk
+returns c = rw (ne-eqb _ _ (c .if1 .taken))
 
--- src/lib.rt:39:9
 returns-2 : tie.Need-returns-2
-returns-2 c = search needs
+unfolding sizeOk
+returns-2 c = rw (eq-eqb _ _ (c .before .if1 .left), lt-leb _ _ (c .if2 .taken))
 
--- src/lib.rt:32:1
 returns-3 : tie.Need-returns-3
-returns-3 c = search needs
+unfolding sizeOk
+returns-3 c = rw (eq-eqb _ _ (c .before .if1 .left), le-leb _ _ (c .if2 .left))
 
 pub is-image-spec : {M : Type 1} → statement M
 is-image-spec = tie.close (tie.spec returns returns-2 returns-3)

@@ -1,42 +1,43 @@
+-- `block::is_zero` meets its contract. The invariant: what is left says the same as the whole.
+-- Assumes nothing.
 use borrow.Author.Needs.{needs}
+use mathlib.Core.Path.{_≡_, refl, sym, _∙_}
+use Prim.Native.Nat.{ℕ, _-_, _≤_}
+use native.Mathlib.Omega.{arith}
+use lib.ListN.{length, drop}
+use Rattle.block.specs.Format.{allZero}
+use Rattle.block.proofs.ZeroLaws.{search-step, search-stop, search-end}
 use Rattle.block.proofs.is_zero.Statement.{statement}
 use Rattle.block.proofs.is_zero.Tie as tie
 use Rattle.block.proofs.is_zero.Reads as reads
 use Rattle.block.proofs.is_zero.Lts as lts
 
 abbrev Inv-loop : tie.InvT-loop
-Inv-loop bytes from i₀ i = ?
+Inv-loop bytes from i₀ i = allZero (drop i bytes) ≡ allZero (drop from bytes)
 
 abbrev μ-loop : tie.MeasureT-loop
-μ-loop bytes from i₀ i = ?
+μ-loop bytes from i₀ i = length bytes - i
 
--- src/lib.rt:166:5
 loop-holds : tie.Need-loop-holds Inv-loop μ-loop
 loop-holds c = search needs
 
--- src/lib.rt:167:12
 shared-slice-read-if1 : tie.Need-shared-slice-read-if1 Inv-loop μ-loop
 shared-slice-read-if1 c = search needs
 
--- src/lib.rt:168:13
 returns : tie.Need-returns Inv-loop μ-loop
-returns c = search needs
+returns c = sym (sym (c .before .before .before .loop .inv) ∙ search-stop (c .before .before .before .before .args .bytes .now) (c .before .before .before .loop .i) (omega arith) (c .if1 .taken))
 
--- src/lib.rt:170:9
 add-i : tie.Need-add-i Inv-loop μ-loop
 add-i c = search needs
 
--- src/lib.rt:166:5
 loop-less : tie.Need-loop-less Inv-loop μ-loop
 loop-less c = search needs
 
--- src/lib.rt:166:5
 loop-again : tie.Need-loop-again Inv-loop μ-loop
-loop-again c = search needs
+loop-again c = search-step (c .before .before .before .before .args .bytes .now) (c .before .before .before .loop .i) (omega arith) (c .if1 .left) ∙ c .before .before .before .loop .inv
 
--- src/lib.rt:162:1
 returns-2 : tie.Need-returns-2 Inv-loop μ-loop
-returns-2 c = search needs
+returns-2 c = sym (sym (c .before .loop .inv) ∙ search-end (c .before .before .args .bytes .now) (c .before .loop .i) (omega arith))
 
 pub is-zero-spec : {M : Type 1} → statement M
 is-zero-spec =

@@ -1,53 +1,53 @@
+-- `block::said` meets its contract: its tests, one after the other.
+-- Assumes nothing.
 use borrow.Author.Needs.{needs}
+use borrow.Author.Tests.{eq-eqb, ne-eqb}
+use mathlib.Core.Path.{refl, sym, _∙_}
+use Rattle.block.specs.Calls.{headSays}
 use Rattle.block.proofs.said.Statement.{statement}
 use Rattle.block.proofs.said.Tie as tie
-use Rattle.block.proofs.said.Reads as reads
-use Rattle.block.proofs.said.Lts as lts
-use Rattle.block.proofs.is_used.Reads as is-used-reads
 
--- src/lib.rt:196:12
 is-used-requires : tie.Need-is-used-requires
 is-used-requires c κs = search needs
 
--- src/lib.rt:197:13
 returns : tie.Need-returns
-returns c = search needs
+unfolding headSays
+returns c = simp (eq-eqb _ _ (c .before .before .if1 .taken), sym (c .before .is-used .ensures) ∙ c .if2 .taken)
 
--- src/lib.rt:199:9
 returns-2 : tie.Need-returns-2
-returns-2 c = search needs
+unfolding headSays
+returns-2 c = simp (eq-eqb _ _ (c .before .before .if1 .taken), sym (c .before .is-used .ensures) ∙ c .if2 .left)
 
--- src/lib.rt:202:12
 is-used-requires-2 : tie.Need-is-used-requires-2
 is-used-requires-2 c κs = search needs
 
--- src/lib.rt:203:13
 returns-3 : tie.Need-returns-3
-returns-3 c = search needs
+unfolding headSays
+returns-3 c = simp (ne-eqb _ _ (c .before .before .before .if1 .left), eq-eqb _ _ (c .before .before .if3 .taken), sym (c .before .is-used2 .ensures) ∙ c .if4 .taken)
 
--- src/lib.rt:205:9
 returns-4 : tie.Need-returns-4
-returns-4 c = search needs
+unfolding headSays
+returns-4 c = simp (ne-eqb _ _ (c .before .before .before .if1 .left), eq-eqb _ _ (c .before .before .if3 .taken), sym (c .before .is-used2 .ensures) ∙ c .if4 .left)
 
--- src/lib.rt:208:9
 returns-5 : tie.Need-returns-5
-returns-5 c = search needs
+unfolding headSays
+returns-5 c = simp (ne-eqb _ _ (c .before .before .if1 .left), ne-eqb _ _ (c .before .if3 .left), ne-eqb _ _ (c .if5 .taken))
 
--- src/lib.rt:211:9
 returns-6 : tie.Need-returns-6
-returns-6 c = search needs
+unfolding headSays
+returns-6 c = simp (ne-eqb _ _ (c .before .before .before .if1 .left), ne-eqb _ _ (c .before .before .if3 .left), eq-eqb _ _ (c .before .if5 .left), ne-eqb _ _ (c .if6 .taken))
 
--- src/lib.rt:214:9
 returns-7 : tie.Need-returns-7
-returns-7 c = search needs
+unfolding headSays
+returns-7 c = simp (ne-eqb _ _ (c .before .before .before .before .if1 .left), ne-eqb _ _ (c .before .before .before .if3 .left), eq-eqb _ _ (c .before .before .if5 .left), eq-eqb _ _ (c .before .if6 .left), eq-eqb _ _ (c .if7 .taken))
 
--- src/lib.rt:217:9
 returns-8 : tie.Need-returns-8
-returns-8 c = search needs
+unfolding headSays
+returns-8 c = simp (ne-eqb _ _ (c .before .before .before .before .before .if1 .left), ne-eqb _ _ (c .before .before .before .before .if3 .left), eq-eqb _ _ (c .before .before .before .if5 .left), eq-eqb _ _ (c .before .before .if6 .left), ne-eqb _ _ (c .before .if7 .left), eq-eqb _ _ (c .if8 .taken))
 
--- src/lib.rt:192:1
 returns-9 : tie.Need-returns-9
-returns-9 c = search needs
+unfolding headSays
+returns-9 c = simp (ne-eqb _ _ (c .before .before .before .before .before .if1 .left), ne-eqb _ _ (c .before .before .before .before .if3 .left), eq-eqb _ _ (c .before .before .before .if5 .left), eq-eqb _ _ (c .before .before .if6 .left), ne-eqb _ _ (c .before .if7 .left), ne-eqb _ _ (c .if8 .left))
 
 pub said-spec : {M : Type 1} → statement M
 said-spec =

@@ -1,0 +1,7 @@
+-- What is true of blocks and of images.
+pub mod ZeroLaws
+pub mod PayloadLaws
+pub mod NumberLaws
+pub mod ContentLaws
+pub mod SealLaws
+pub mod OpenLaws
