@@ -5,3 +5,6 @@ pub mod NumberLaws
 pub mod ContentLaws
 pub mod SealLaws
 pub mod OpenLaws
+pub mod RoundTrip
+pub mod ImageLaws
+pub mod Unique

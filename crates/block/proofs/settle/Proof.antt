@@ -40,7 +40,7 @@ returns c =
     let i = c .before .before .before .before .before in
     let a = i .before .before .before .args in
     let e = rest-decides (a .kind) (a .last) (a .used) (a .out .now) (failed (i .is-zero .ensures) (c .before .before .before .before .if1 .taken)) in
-    (sym (ap seenOf e), zeros-left _ (a .out .now) (i .before .before .before .pre) (c .before .before .zero .ensures) (ap bytesOf e))
+    (sym (ap seenOf e), zeros-left (contentOf (a .kind) (a .last) (a .used) (a .out .now)) (a .out .now) (i .before .before .before .pre) (c .before .before .zero .ensures) (ap bytesOf e))
 
 said-requires : tie.Need-said-requires
 said-requires c κs = search needs
@@ -61,7 +61,7 @@ returns-2 c =
     let a = i .before .before .before .args in
     let j = header-decides (a .kind) (a .last) (a .used) (a .out .now) (i .before .before .before .pre) (passed (i .is-zero .ensures) (t .before .before .before .if1 .left)) in
     let s = t .before .before .said .ensures in
-    (s ∙ sym (j .says), zeros-left _ (a .out .now) (i .before .before .before .pre) (c .before .before .zero2 .ensures) (j .shuts (sym s ∙ t .enum-told .given .1)))
+    (s ∙ sym (j .says), zeros-left (contentOf (a .kind) (a .last) (a .used) (a .out .now)) (a .out .now) (i .before .before .before .pre) (c .before .before .zero2 .ensures) (j .shuts (sym s ∙ t .enum-told .given .1)))
 
 same-length-3 : tie.Need-same-length-3
 same-length-3 c = search needs
