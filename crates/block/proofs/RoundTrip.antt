@@ -1,12 +1,12 @@
 -- What was sealed at p opens at p with the same content, and a block of all zeros opens nowhere.
 -- Assumes nothing.
 use borrow.Author.Tests.{eq-eqb, le-leb}
-use mathlib.Core.Path.{_≡_, refl, sym, ap, _∙_}
+use mathlib.Core.Path.{_≡_, refl, _∙_}
 use mathlib.Core.Bool.{Bool, true, false, _&&_}
-use mathlib.Core.List.{List, _++_}
+use mathlib.Core.List.{List}
 use Prim.Native.Nat.{ℕ, _-_, _≤_, _<_}
 use native.Mathlib.Omega.{arith}
-use lib.Dec.{eqb, leb, lit<}
+use lib.Dec.{eqb}
 use lib.ListN.{length, getD, take, drop, replicate, getD-replicate}
 use lib.Seq.{take-at, drop-at}
 use Rattle.laws.specs.Choose.{pick}

@@ -1,7 +1,6 @@
 -- `block::is_used` meets its contract: its tests, one after the other.
 -- Assumes nothing.
 use borrow.Author.Tests.{eq-eqb, ne-eqb, le-leb, lt-leb}
-use mathlib.Core.Path.{refl}
 use Rattle.block.specs.Format.{usedOk}
 use Rattle.block.proofs.is_used.Statement.{statement}
 use Rattle.block.proofs.is_used.Tie as tie

@@ -1,16 +1,14 @@
 -- `block::is_zero` meets its contract. The invariant: what is left says the same as the whole.
 -- Assumes nothing.
 use borrow.Author.Needs.{needs}
-use mathlib.Core.Path.{_≡_, refl, sym, _∙_}
-use Prim.Native.Nat.{ℕ, _-_, _≤_}
+use mathlib.Core.Path.{_≡_, sym, _∙_}
+use Prim.Native.Nat.{_-_}
 use native.Mathlib.Omega.{arith}
 use lib.ListN.{length, drop}
 use Rattle.block.specs.Format.{allZero}
 use Rattle.block.proofs.ZeroLaws.{search-step, search-stop, search-end}
 use Rattle.block.proofs.is_zero.Statement.{statement}
 use Rattle.block.proofs.is_zero.Tie as tie
-use Rattle.block.proofs.is_zero.Reads as reads
-use Rattle.block.proofs.is_zero.Lts as lts
 
 abbrev Inv-loop : tie.InvT-loop
 Inv-loop bytes from i₀ i = allZero (drop i bytes) ≡ allZero (drop from bytes)

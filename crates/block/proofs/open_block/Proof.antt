@@ -2,23 +2,13 @@
 -- Assumes nothing.
 use borrow.Author.Needs.{needs}
 use borrow.Author.Tests.{eq-eqb, ne-eqb, le-leb, lt-leb}
-use mathlib.Core.Path.{_≡_, refl, sym, ap, _∙_}
-use Prim.Native.Nat.{_≤_}
+use mathlib.Core.Path.{sym, _∙_}
 use native.Mathlib.Omega.{arith}
-use lib.ListN.{length}
 use lib.Seq.{length-take-le}
 use Rattle.block.specs.Calls.{openable}
 use Rattle.block.proofs.OpenLaws.{number-shuts, tag-shuts, tag-opens, open-stays, open-answers, open-shuts}
 use Rattle.block.proofs.open_block.Statement.{statement}
 use Rattle.block.proofs.open_block.Tie as tie
-use Rattle.block.proofs.open_block.Reads as reads
-use Rattle.block.proofs.open_block.Lts as lts
-use Rattle.aead.proofs.open.Reads as open-reads
-use Rattle.block.proofs.nonce_at.Reads as nonce-at-reads
-use Rattle.block.proofs.number_in.Reads as number-in-reads
-use Rattle.block.proofs.settle.Reads as settle-reads
-use Rattle.block.proofs.used_in.Reads as used-in-reads
-use Rattle.buffer.proofs.zero.Reads as zero-reads
 
 returns : tie.Need-returns
 unfolding openable

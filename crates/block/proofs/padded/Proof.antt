@@ -1,18 +1,9 @@
 -- `block::padded` meets its contract: the bytes laid over zeros.
 -- Assumes nothing.
 use borrow.Author.Needs.{needs}
-use mathlib.Core.Path.{_≡_, ap, _∙_}
-use native.Mathlib.Omega.{arith}
-use lib.ListN.{length, replicate, length-replicate}
-use lib.Seq.{take-all}
-use Prim.Native.Nat.{ℕ, _≤_}
-use Rattle.laws.specs.Lists.{splice}
 use Rattle.block.proofs.PayloadLaws.{payload-copied}
 use Rattle.block.proofs.padded.Statement.{statement}
 use Rattle.block.proofs.padded.Tie as tie
-use Rattle.block.proofs.padded.Reads as reads
-use Rattle.block.proofs.padded.Lts as lts
-use Rattle.buffer.proofs.copy.Reads as copy-reads
 
 slice-aggregate-copy : tie.Need-slice-aggregate-copy
 slice-aggregate-copy c = search needs

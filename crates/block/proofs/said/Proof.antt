@@ -2,7 +2,7 @@
 -- Assumes nothing.
 use borrow.Author.Needs.{needs}
 use borrow.Author.Tests.{eq-eqb, ne-eqb}
-use mathlib.Core.Path.{refl, sym, _∙_}
+use mathlib.Core.Path.{sym, _∙_}
 use Rattle.block.specs.Calls.{headSays}
 use Rattle.block.proofs.said.Statement.{statement}
 use Rattle.block.proofs.said.Tie as tie

@@ -2,21 +2,12 @@
 -- Assumes nothing.
 use borrow.Author.Needs.{needs}
 use borrow.Author.Tests.{eq-eqb, ne-eqb, le-leb, lt-leb}
-use mathlib.Core.Path.{_≡_, refl, ap, _∙_}
-use mathlib.Core.List.{List}
-use Prim.Native.Nat.{ℕ}
+use mathlib.Core.Path.{refl, ap, _∙_}
 use Rattle.laws.specs.Lists.{splice}
 use Rattle.block.specs.Calls.{sealNumber}
 use Rattle.block.proofs.SealLaws.{seal-refuses, seal-writes, block-made}
 use Rattle.block.proofs.seal_block.Statement.{statement}
 use Rattle.block.proofs.seal_block.Tie as tie
-use Rattle.block.proofs.seal_block.Reads as reads
-use Rattle.block.proofs.seal_block.Lts as lts
-use Rattle.block.proofs.flag_number.Reads as flag-number-reads
-use Rattle.block.proofs.header_of.Reads as header-of-reads
-use Rattle.block.proofs.nonce_at.Reads as nonce-at-reads
-use Rattle.block.proofs.padded.Reads as padded-reads
-use Rattle.block.proofs.seal_parts.Reads as seal-parts-reads
 
 returns : tie.Need-returns
 unfolding sealNumber

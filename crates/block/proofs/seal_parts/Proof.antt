@@ -4,10 +4,6 @@ use borrow.Author.Needs.{needs}
 use Rattle.block.proofs.SealLaws.{parts-laid}
 use Rattle.block.proofs.seal_parts.Statement.{statement}
 use Rattle.block.proofs.seal_parts.Tie as tie
-use Rattle.block.proofs.seal_parts.Reads as reads
-use Rattle.block.proofs.seal_parts.Lts as lts
-use Rattle.aead.proofs.seal.Reads as seal-reads
-use Rattle.buffer.proofs.copy.Reads as copy-reads
 
 copy-requires : tie.Need-copy-requires
 copy-requires c κs = search needs

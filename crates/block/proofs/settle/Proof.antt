@@ -2,8 +2,7 @@
 -- Assumes nothing.
 use borrow.Author.Needs.{needs}
 use mathlib.Core.Path.{_≡_, sym, ap, _∙_, subst}
-use mathlib.Core.List.{List, [], _∷_}
-use Prim.Native.Nat.{ℕ}
+use mathlib.Core.List.{[], _∷_}
 use denote.Enum.Declared.{tagOf}
 use types.Run.{OneOf, miss}
 use Rattle.laws.proofs.ChooseLaws.{passed, failed}
@@ -12,15 +11,10 @@ use Rattle.block.specs.declared.Seen.the-variants as seen
 use Rattle.block.proofs.Seen.{the-type}
 use Rattle.block.specs.Format.{contentOf}
 use Rattle.block.specs.Content.{bytesOf}
-use Rattle.block.specs.Calls.{seenOf, headSays}
+use Rattle.block.specs.Calls.{seenOf}
 use Rattle.block.proofs.ContentLaws.{header-decides, rest-decides, zeros-left}
 use Rattle.block.proofs.settle.Statement.{statement}
 use Rattle.block.proofs.settle.Tie as tie
-use Rattle.block.proofs.settle.Reads as reads
-use Rattle.block.proofs.settle.Lts as lts
-use Rattle.block.proofs.is_zero.Reads as is-zero-reads
-use Rattle.block.proofs.said.Reads as said-reads
-use Rattle.buffer.proofs.zero.Reads as zero-reads
 
 -- the other arm is not come to with Shut
 other-arm : {s : Seen} → s ≡ seen.Shut → OneOf (1 ∷ 2 ∷ 3 ∷ 4 ∷ []) (tagOf the-type s) → ⊥
