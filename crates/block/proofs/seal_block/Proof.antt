@@ -2,6 +2,7 @@
 -- Assumes nothing.
 use borrow.Author.Needs.{needs}
 use borrow.Author.Tests.{eq-eqb, ne-eqb, le-leb, lt-leb}
+use native.Mathlib.Omega.{arith}
 use mathlib.Core.Path.{refl, ap, _∙_}
 use Rattle.laws.specs.Lists.{splice}
 use Rattle.block.specs.Calls.{sealNumber}
@@ -30,7 +31,7 @@ returns-5 : tie.Need-returns-5
 unfolding sealNumber
 returns-5 c =
     let i = c .before .before in
-    seal-refuses (rw (eq-eqb _ _ (i .before .before .if1 .left), le-leb _ _ (i .before .if2 .left), le-leb _ _ (i .if3 .left), le-leb _ _ (c .before .if4 .left), lt-leb _ _ (c .if5 .taken))) refl
+    seal-refuses (rw (eq-eqb _ _ (i .before .before .if1 .left), le-leb _ _ (i .before .if2 .left), le-leb _ _ (i .if3 .left), le-leb _ _ (c .before .if4 .left), lt-leb (i .before .before .before .before .before .before .args .kind) 4 (omega arith))) refl
 
 nonce-at-requires : tie.Need-nonce-at-requires
 nonce-at-requires c κs = search needs
@@ -58,7 +59,7 @@ returns-6 c =
     let w = k .before in
     let a = w .before .before .before .before .before .before .before .before .args in
     seal-writes
-    (rw (eq-eqb _ _ (w .before .before .before .before .if1 .left), le-leb _ _ (w .before .before .before .if2 .left), le-leb _ _ (w .before .before .if3 .left), le-leb _ _ (w .before .if4 .left), le-leb _ _ (w .if5 .left)))
+    (rw (eq-eqb _ _ (w .before .before .before .before .if1 .left), le-leb _ _ (w .before .before .before .if2 .left), le-leb _ _ (w .before .before .if3 .left), le-leb _ _ (w .before .if4 .left), le-leb (a .kind) 4 (omega (arith, w .if5 .left))))
     (c .before .before .seal-parts .ensures ∙ ap (splice (a .part .now) 0)
     (block-made (a .key .now) (a .id) (a .recording) (a .p) (a .kind) (a .last) (a .bytes .now) (i .ensures)
     (c .before .before .before .before .before .before .before .before .before .flag-number .ensures) (c .before .before .before .before .before .before .before .before .header-of .ensures) (c .before .before .before .before .before .before .before .padded .ensures)))
