@@ -6,5 +6,6 @@ pub mod ContentLaws
 pub mod SealLaws
 pub mod OpenLaws
 pub mod RoundTrip
+pub mod OpenedLawful
 pub mod ImageLaws
 pub mod Unique
