@@ -109,8 +109,8 @@ module _ (key : List ℕ) (id recording : ℕ) where
   lay-stands (b ∷ bs) image p h k a =
       let e = length-next image p b (omega arith) in (
         ap (openBlock key id recording p)
-        (lay-else bs (put image p (sealBlock key id recording p b)) (suc p) p (omega arith) (inl (omega arith))
-        ∙ block-put-same image p (sealBlock key id recording p b) (seal-length key id recording p b) (omega arith))
-        ∙ open-seal-block key id recording p b (omega arith) (a .0),
+            (lay-else bs (put image p (sealBlock key id recording p b)) (suc p) p (omega arith) (inl (omega arith))
+            ∙ block-put-same image p (sealBlock key id recording p b) (seal-length key id recording p b) (omega arith))
+            ∙ open-seal-block key id recording p b (omega arith) (a .0),
         lay-stands bs (put image p (sealBlock key id recording p b)) (suc p) (omega arith) (omega arith) (a .1),
       )

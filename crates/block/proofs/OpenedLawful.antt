@@ -111,12 +111,16 @@ opens-lawful key id recording p b hk hb h = go (eqb (number4 b 0) p && fits key 
   where
     n : List ℕ
     n = nonceAt id recording p
+
     m : List ℕ
     m = opened key n (take 8 b) (drop 8 b)
+
     size : length m ≡ 488
     size = opened-length key n (take 8 b) hk (nonce-bytes id recording p) (bytes-take 8 b hb) (drop 8 b) ∙ omega (arith, length-drop 8 b)
+
     fine : Bytes m
     fine = opened-bytes key n (take 8 b) hk (nonce-bytes id recording p) (bytes-take 8 b hb) (drop 8 b) (bytes-drop 8 b hb)
+
     go : (t : Bool) → Shut (pick t (contentOf (getD b 4 0) (getD b 5 0) (number2 b 6) m) shut) ⊎ Lawful p (pick t (contentOf (getD b 4 0) (getD b 5 0) (number2 b 6) m) shut)
     go true = content-lawful (getD b 5 0) (number2 b 6) m size fine (getD b 4 0) p
     go false = inl tt

@@ -99,7 +99,16 @@ fn seal_parts(key: &[u8], nonce: &[u8; 16], head: &[u8; 8], message: &[u8; 488],
 
 // Seals a block at the front of `part`, and writes no byte beyond its 512. 2: a key, a payload or a part of a wrong length; 8: a kind that
 // is not 1 to 4. Refused, `part` stays.
-pub fn seal_block(key: &[u8], id: u32, recording: u64, p: u32, kind: u8, last: bool, bytes: &[u8], part: &mut [u8]) -> u8
+pub fn seal_block(
+    key: &[u8],
+    id: u32,
+    recording: u64,
+    p: u32,
+    kind: u8,
+    last: bool,
+    bytes: &[u8],
+    part: &mut [u8],
+) -> u8
     ensures { λ r. ⌜ SealedAt (now (key .entry)) id recording p kind last (now (bytes .entry)) (now (part .entry)) r (now (part .exit)) ⌝ }
 {
     if key.len() != 24 {

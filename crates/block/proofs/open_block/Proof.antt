@@ -72,8 +72,8 @@ returns-5 c =
     let t = n .before .before .before in
     let a = t .before .before .before .before .args in
     let s =
-        tag-shuts (a .key .now) (a .id) (a .recording) (a .p) (a .part .now) (t .if1 .left) (n .before .before .if2 .left) (n .before .if3 .left) (m .nonce-at .ensures)
-        (sym (n .number-in .ensures) ∙ m .before .if4 .left) (o .«open» .ensures) (c .if5 .taken) in
+    tag-shuts (a .key .now) (a .id) (a .recording) (a .p) (a .part .now) (t .if1 .left) (n .before .before .if2 .left) (n .before .if3 .left) (m .nonce-at .ensures)
+    (sym (n .number-in .ensures) ∙ m .before .if4 .left) (o .«open» .ensures) (c .if5 .taken) in
     open-shuts (a .key .now) (a .part .now) (a .out .now) (t .if1 .left) (n .before .before .if2 .left) (n .before .if3 .left) (s .0) (s .1)
 
 shared-slice-read-settle : tie.Need-shared-slice-read-settle
@@ -101,8 +101,8 @@ returns-6 c =
     let t = n .before .before .before in
     let a = t .before .before .before .before .args in
     let s =
-        tag-opens (a .key .now) (a .id) (a .recording) (a .p) (a .part .now) (t .if1 .left) (n .before .before .if2 .left) (n .before .if3 .left) (m .nonce-at .ensures)
-        (sym (n .number-in .ensures) ∙ m .before .if4 .left) (o .«open» .ensures) (u .used-in .ensures .0) (v .if5 .left) in
+    tag-opens (a .key .now) (a .id) (a .recording) (a .p) (a .part .now) (t .if1 .left) (n .before .before .if2 .left) (n .before .if3 .left) (m .nonce-at .ensures)
+    (sym (n .number-in .ensures) ∙ m .before .if4 .left) (o .«open» .ensures) (u .used-in .ensures .0) (v .if5 .left) in
     open-answers (a .key .now) (a .part .now) (a .out .now) (t .if1 .left) (n .before .before .if2 .left) (n .before .if3 .left) _ s (c .before .before .settle .ensures .0) (c .before .before .settle .ensures .1)
 
 pub open-block-spec : {M : Type 1} → statement M
