@@ -1,0 +1,40 @@
+-- An image as 512-byte blocks (01, "The cartridge image"), and what a key shows of it.
+use mathlib.Core.Bool.{Bool, _&&_}
+use mathlib.Core.List.{List, [], _∷_}
+use Prim.Native.Nat.{ℕ, suc, _*_, _/_, _%_}
+use lib.Dec.{eqb, leb}
+use lib.ListN.{length, take, drop}
+use Rattle.laws.specs.Lists.{splice}
+use Rattle.block.specs.Content.{Content}
+use Rattle.block.specs.Format.{sealBlock, openBlock}
+
+-- capacity: the number of blocks
+unfoldable pub capacityOf : List ℕ → ℕ
+capacityOf image = length image / 512
+
+-- 4 to 128 whole blocks
+unfoldable pub sizeOk : ℕ → Bool
+sizeOk n = eqb (n % 512) 0 && (leb 2048 n && leb n 65536)
+
+unfoldable pub imageOk : List ℕ → Bool
+imageOk image = sizeOk (length image)
+
+-- the bytes of block p
+unfoldable pub blockAt : List ℕ → ℕ → List ℕ
+blockAt image p = take 512 (drop (512 * p) image)
+
+-- what a place shows: a view of the cartridge
+abbrev pub View : Type 0
+View = ℕ → Content
+
+unfoldable pub view : List ℕ → ℕ → ℕ → List ℕ → View
+view key id recording image p = openBlock key id recording p (blockAt image p)
+
+-- ---- blocks laid
+unfoldable pub put : List ℕ → ℕ → List ℕ → List ℕ
+put image p b = splice image (512 * p) b
+
+-- the blocks bs, sealed, at p and on
+unfoldable pub lay : List ℕ → ℕ → ℕ → List ℕ → ℕ → List Content → List ℕ
+lay key id recording image p [] = image
+lay key id recording image p (b ∷ bs) = lay key id recording (put image p (sealBlock key id recording p b)) (suc p) bs

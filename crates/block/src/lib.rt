@@ -1,0 +1,259 @@
+// One block of a cartridge at its place: sealed at the front of a lent part, opened straight into a lent buffer.
+ghost use mathlib.Core.Path.{_≡_};
+ghost use mathlib.Core.List.{_++_};
+ghost use Prim.Native.Nat.{_≤_, _<_};
+ghost use lib.ListN.{length, getD, take, drop};
+ghost use lib.Dec.{eqb};
+ghost use Rattle.laws.specs.Lists.{splice};
+ghost use Rattle.aead.specs.Sealing.{sealed};
+ghost use Rattle.block.specs.Content.{flag, bytesOf};
+ghost use Rattle.block.specs.Format.{nonceAt, header, payload, number4, number2, allZero, usedOk, contentOf};
+ghost use Rattle.block.specs.Image.{sizeOk};
+ghost use Rattle.block.specs.Calls.{SealedAt, headSays, seenOf, OpenedAt};
+
+// What opens at a place: for a record's blocks byte 5 and the bytes used.
+pub enum Seen {
+    Shut,
+    First(bool, usize),
+    More(bool, usize),
+    Mark,
+    End,
+}
+
+// Whether an image of `size` bytes has 4 to 128 whole blocks.
+pub fn is_image(size: usize) -> bool
+    ensures { λ r. ⌜ r ≡ sizeOk size ⌝ }
+{
+    if size % 512 != 0 {
+        return false;
+    }
+    if size < 2048 {
+        return false;
+    }
+    size <= 65536
+}
+
+// ---- Sealing.
+fn flag_number(last: bool) -> u8
+    ensures { λ r. ⌜ r ≡ flag last ⌝ }
+{
+    if last { 1 } else { 0 }
+}
+
+fn nonce_at(id: u32, recording: u64, p: u32) -> [u8; 16]
+    ensures { λ r. ⌜ r ≡ nonceAt id recording p ⌝ }
+{
+    [
+        (id / 16777216 % 256) as u8,
+        (id / 65536 % 256) as u8,
+        (id / 256 % 256) as u8,
+        (id % 256) as u8,
+        (recording / 4294967296 / 16777216 % 256) as u8,
+        (recording / 4294967296 / 65536 % 256) as u8,
+        (recording / 4294967296 / 256 % 256) as u8,
+        (recording / 4294967296 % 256) as u8,
+        (recording / 16777216 % 256) as u8,
+        (recording / 65536 % 256) as u8,
+        (recording / 256 % 256) as u8,
+        (recording % 256) as u8,
+        (p / 16777216 % 256) as u8,
+        (p / 65536 % 256) as u8,
+        (p / 256 % 256) as u8,
+        (p % 256) as u8,
+    ]
+}
+
+fn header_of(p: u32, kind: u8, last: u8, used: usize) -> [u8; 8]
+    ensures { λ r. ⌜ r ≡ header p kind last used ⌝ }
+{
+    [
+        (p / 16777216 % 256) as u8,
+        (p / 65536 % 256) as u8,
+        (p / 256 % 256) as u8,
+        (p % 256) as u8,
+        kind,
+        last,
+        (used / 256 % 256) as u8,
+        (used % 256) as u8,
+    ]
+}
+
+// The bytes and zeros behind them, 488 in all.
+fn padded(bytes: &[u8]) -> [u8; 488]
+    requires { ⌜ length (now bytes) ≤ 488 ⌝ }
+    ensures { λ r. ⌜ r ≡ payload (now (bytes .entry)) ⌝ }
+{
+    let mut message = [0u8; 488];
+    buffer::copy(&mut message, bytes);
+    message
+}
+
+// Lays the header and the sealed message over the first 512 bytes of `part`.
+fn seal_parts(key: &[u8], nonce: &[u8; 16], head: &[u8; 8], message: &[u8; 488], part: &mut [u8])
+    requires { ⌜ (length (now key) ≡ 24) × (512 ≤ length (now part)) × (length (now nonce) ≡ 16) × (length (now head) ≡ 8) × (length (now message) ≡ 488) ⌝ }
+    ensures { λ _. ⌜ now (part .exit) ≡ splice (now (part .entry)) 0 (now (head .entry) ++ sealed (now (key .entry)) (now (nonce .entry)) (now (head .entry)) (now (message .entry))) ⌝ }
+{
+    buffer::copy(part, head);
+    aead::seal(key, nonce, head, message, &mut part[8..512]);
+}
+
+// Seals a block at the front of `part`, and writes no byte beyond its 512. 2: a key, a payload or a part of a wrong length; 8: a kind that
+// is not 1 to 4. Refused, `part` stays.
+pub fn seal_block(
+    key: &[u8],
+    id: u32,
+    recording: u64,
+    p: u32,
+    kind: u8,
+    last: bool,
+    bytes: &[u8],
+    part: &mut [u8],
+) -> u8
+    ensures { λ r. ⌜ SealedAt (now (key .entry)) id recording p kind last (now (bytes .entry)) (now (part .entry)) r (now (part .exit)) ⌝ }
+{
+    if key.len() != 24 {
+        return 2;
+    }
+    if 488 < bytes.len() {
+        return 2;
+    }
+    if part.len() < 512 {
+        return 2;
+    }
+    if kind < 1 {
+        return 8;
+    }
+    if 4 < kind {
+        return 8;
+    }
+    let nonce = nonce_at(id, recording, p);
+    let head = header_of(p, kind, flag_number(last), bytes.len());
+    let message = padded(bytes);
+    seal_parts(key, &nonce, &head, &message, part);
+    0
+}
+
+// ---- Opening.
+fn wide(x: u8) -> usize
+    ensures { λ r. ⌜ (r ≡ x) × (r < 256) ⌝ }
+{
+    x as usize
+}
+
+// The block number and the count of bytes used, as the header has them.
+fn number_in(part: &[u8]) -> usize
+    requires { ⌜ 8 ≤ length (now part) ⌝ }
+    ensures { λ r. ⌜ r ≡ number4 (now (part .entry)) 0 ⌝ }
+{
+    wide(part[0]) * 16777216 + wide(part[1]) * 65536 + wide(part[2]) * 256 + wide(part[3])
+}
+
+fn used_in(part: &[u8]) -> usize
+    requires { ⌜ 8 ≤ length (now part) ⌝ }
+    ensures { λ r. ⌜ (r ≡ number2 (now (part .entry)) 6) × (r < 65536) ⌝ }
+{
+    wide(part[6]) * 256 + wide(part[7])
+}
+
+// Whether all bytes from `from` on are zero.
+fn is_zero(bytes: &[u8], from: usize) -> bool
+    ensures { λ r. ⌜ r ≡ allZero (drop from (now (bytes .entry))) ⌝ }
+{
+    let mut i = from;
+    while i < bytes.len() {
+        if bytes[i] != 0 {
+            return false;
+        }
+        i += 1;
+    }
+    true
+}
+
+// Whether byte 5 and the count of bytes used go together in a record's block.
+fn is_used(last: u8, used: usize) -> bool
+    ensures { λ r. ⌜ r ≡ usedOk last used ⌝ }
+{
+    if last == 0 {
+        return used == 488;
+    }
+    if last != 1 {
+        return false;
+    }
+    if used < 1 {
+        return false;
+    }
+    used <= 488
+}
+
+// What a header says of a payload whose unused bytes are zero.
+fn said(kind: u8, last: u8, used: usize) -> Seen
+    ensures { λ r. ⌜ r ≡ headSays kind last used ⌝ }
+{
+    if kind == 1 {
+        if is_used(last, used) {
+            return Seen::First(last == 1, used);
+        }
+        return Seen::Shut;
+    }
+    if kind == 2 {
+        if is_used(last, used) {
+            return Seen::More(last == 1, used);
+        }
+        return Seen::Shut;
+    }
+    if last != 0 {
+        return Seen::Shut;
+    }
+    if used != 0 {
+        return Seen::Shut;
+    }
+    if kind == 3 {
+        return Seen::Mark;
+    }
+    if kind == 4 {
+        return Seen::End;
+    }
+    Seen::Shut
+}
+
+// What a header and an opened payload are; where that is unlawful, `out` becomes zero.
+fn settle(kind: u8, last: u8, used: usize, out: &mut [u8]) -> Seen
+    requires { ⌜ length (now out) ≡ 488 ⌝ }
+    ensures says { λ r. ⌜ r ≡ seenOf (contentOf kind last used (now (out .entry))) ⌝ }
+    ensures bytes { λ _. ⌜ now (out .exit) ≡ payload (bytesOf (contentOf kind last used (now (out .entry)))) ⌝ }
+{
+    if !is_zero(out, used) {
+        buffer::zero(out);
+        return Seen::Shut;
+    }
+    let seen = said(kind, last, used);
+    if let Seen::Shut = seen {
+        buffer::zero(out);
+    }
+    seen
+}
+
+// Opens the block at the front of `part` as block p, its payload into the 488 bytes of `out`; where it does not open, `out` is zero.
+// A key, a part or an `out` of a wrong length: nothing opens, and `out` stays.
+pub fn open_block(key: &[u8], id: u32, recording: u64, p: u32, part: &[u8], out: &mut [u8]) -> Seen
+    ensures { λ r. ⌜ OpenedAt (now (key .entry)) id recording p (now (part .entry)) (now (out .entry)) r (now (out .exit)) ⌝ }
+{
+    if key.len() != 24 {
+        return Seen::Shut;
+    }
+    if part.len() < 512 {
+        return Seen::Shut;
+    }
+    if out.len() != 488 {
+        return Seen::Shut;
+    }
+    if number_in(part) != p as usize {
+        buffer::zero(out);
+        return Seen::Shut;
+    }
+    let nonce = nonce_at(id, recording, p);
+    if aead::open(key, &nonce, &part[..8], &part[8..512], out) != 0 {
+        return Seen::Shut;
+    }
+    settle(part[4], part[5], used_in(part), out)
+}
