@@ -3,14 +3,15 @@
 use mathlib.Core.Path.{_≡_, refl, sym, ap, _∙_}
 use mathlib.Core.Logic.{_≢_, _⊎_, inl, inr, ⊎-elim}
 use mathlib.Core.List.{List, [], _∷_, _++_}
-use Prim.Native.Nat.{ℕ, suc, _+_, _-_, _*_, _≤_, _<_}
+use Prim.Native.Nat.{ℕ, zero, suc, _+_, _-_, _*_, _≤_, _<_}
+use native.Mathlib.Nat.{not-suc-le-zero, add-zero, add-suc, suc-add}
 use native.Mathlib.Omega.{arith}
-use lib.ListN.{length, take, drop, replicate, length-drop, take-append-drop}
+use lib.ListN.{length, getD, take, drop, replicate, length-drop, take-append-drop}
 use lib.Seq.{take-at, drop-at, take-append-le, drop-append-le, drop-append-add, drop-drop, length-take-le}
 use Rattle.laws.specs.Lists.{splice}
 use Rattle.laws.proofs.OrderLaws.{lt-or-ge}
 use Rattle.laws.proofs.SpliceLaws.{length-splice}
-use Rattle.block.specs.Content.{Content, Lawful}
+use Rattle.block.specs.Content.{Content, shut, Lawful}
 use Rattle.block.specs.Format.{sealBlock, openBlock}
 use Rattle.block.specs.Image.{blockAt, View, view, put, lay}
 use Rattle.block.proofs.ZeroLaws.{take-zeros, drop-zeros}
@@ -114,3 +115,17 @@ module _ (key : List ℕ) (id recording : ℕ) where
             ∙ open-seal-block key id recording p b (omega arith) (a .0),
         lay-stands bs (put image p (sealBlock key id recording p b)) (suc p) (omega arith) (omega arith) (a .1),
       )
+
+  -- what is laid stands there, sealed for its place
+  pub lay-at : (bs : List Content) (image : List ℕ) (p j : ℕ) → 512 * (p + length bs) ≤ length image → j < length bs
+      → blockAt (lay key id recording image p bs) (p + j) ≡ sealBlock key id recording (p + j) (getD bs j shut)
+  unfolding lay
+  lay-at [] image p j h l = absurd (not-suc-le-zero l)
+  lay-at (b ∷ bs) image p zero h l =
+      let d = sealBlock key id recording p b in
+      let k : 512 * p + 512 ≤ length image = omega arith in
+      let e = length-next image p b k in
+      rw add-zero (lay-else bs (put image p d) (suc p) p (omega arith) (inl (omega arith)) ∙ block-put-same image p d (seal-length key id recording p b) k)
+  lay-at (b ∷ bs) image p (suc j) h l =
+      let e = length-next image p b (omega arith) in
+      rw (add-suc p j, ← suc-add p j) (lay-at bs (put image p (sealBlock key id recording p b)) (suc p) j (omega arith) (omega arith))

@@ -1,0 +1,166 @@
+-- What every call on a state asks first: what its number says, and what holds where it refuses nothing.
+-- Assumes nothing.
+use borrow.Author.Tests.{eq-eqb, eqb-true, leb-true, ltb-true, not-true}
+use mathlib.Core.Path.{_≡_, refl, sym, ap, _∙_}
+use mathlib.Core.Bool.{Bool, true, false, not, _&&_}
+use mathlib.Core.List.{List}
+use Prim.Native.Nat.{ℕ, _+_, _*_, _%_, _≤_, _<_}
+use native.Mathlib.Omega.{arith}
+use lib.Dec.{eqb, leb, ltb}
+use lib.ListN.{length}
+use Rattle.laws.specs.Choose.{firstOf}
+use Rattle.laws.proofs.ChooseLaws.{both-left, both-right, no-refusal}
+use Rattle.block.specs.Image.{capacityOf, sizeOk, imageOk}
+use Rattle.writer.specs.declared.WriterState.{WriterState}
+use Rattle.writer.specs.Items.{Item, rec, blocksFor, size}
+use Rattle.writer.specs.Writing.{zoneOk, placeOk, lawful, lengthOk, room, callNumber, itemNumber, closeNumber}
+
+-- a call that finds image, key and state as they should be, and the recording open
+pub record Ready (s : WriterState) (key image : List ℕ) : Type 0 where
+  pub image-ok : imageOk image ≡ true
+  pub key24 : length key ≡ 24
+  pub is-lawful : lawful s (capacityOf image) ≡ true
+  pub is-open : s .closed ≡ false
+
+-- ---- what its tests say in numbers
+pub record Whole (image : List ℕ) : Type 0 where
+  pub blocks : length image ≡ 512 * capacityOf image
+  pub least : 4 ≤ capacityOf image
+  pub most : capacityOf image ≤ 128
+
+pub whole : (image : List ℕ) → imageOk image ≡ true → Whole image
+unfolding imageOk sizeOk capacityOf
+whole image e =
+    let n = length image in
+    let a : n % 512 ≡ 0 = eqb-true (n % 512) 0 (both-left (eqb (n % 512) 0) (leb 2048 n && leb n 65536) e) in
+    let f = both-right (eqb (n % 512) 0) (leb 2048 n && leb n 65536) e in
+    let b : 2048 ≤ n = leb-true 2048 n (both-left (leb 2048 n) (leb n 65536) f) in
+    let d : n ≤ 65536 = leb-true n 65536 (both-right (leb 2048 n) (leb n 65536) f) in
+    record { blocks = omega arith; least = omega arith; most = omega arith }
+
+pub record Zoned (c e : ℕ) : Type 0 where
+  pub low : 1 ≤ e
+  pub high : e < c
+
+pub zoned : (c e : ℕ) → zoneOk c e ≡ true → Zoned c e
+unfolding zoneOk
+zoned c e z =
+    record { low = leb-true 1 e (both-left (leb 1 e) (ltb e c) z); high = ltb-true e c (both-right (leb 1 e) (ltb e c) z) }
+
+-- lawful, taken apart and put together
+pub record Lawful (s : WriterState) (c : ℕ) : Type 0 where
+  pub capacity-is : s .capacity ≡ c
+  pub zone-ok : zoneOk (s .capacity) (s .zone) ≡ true
+  pub place-ok : placeOk s ≡ true
+
+pub lawfully : (s : WriterState) (c : ℕ) → lawful s c ≡ true → Lawful s c
+unfolding lawful
+lawfully s c e =
+    let f = both-right (eqb (s .capacity) c) (zoneOk (s .capacity) (s .zone) && placeOk s) e in
+    record {
+      capacity-is = eqb-true (s .capacity) c (both-left (eqb (s .capacity) c) (zoneOk (s .capacity) (s .zone) && placeOk s) e);
+      zone-ok = both-left (zoneOk (s .capacity) (s .zone)) (placeOk s) f;
+      place-ok = both-right (zoneOk (s .capacity) (s .zone)) (placeOk s) f;
+    }
+
+pub lawful-holds : (s : WriterState) (c : ℕ) → Lawful s c → lawful s c ≡ true
+unfolding lawful
+lawful-holds s c l = rw (eq-eqb (s .capacity) c (l .capacity-is), l .zone-ok, l .place-ok)
+
+-- all of it, for a call that is ready
+pub record Facts (s : WriterState) (image : List ℕ) : Type 0 where
+  pub blocks : length image ≡ 512 * s .capacity
+  pub capacity-is : s .capacity ≡ capacityOf image
+  pub most : s .capacity ≤ 128
+  pub zone-low : 1 ≤ s .zone
+  pub zone-high : s .zone < s .capacity
+  pub before-held : s .position < s .capacity
+
+open-place : (s : WriterState) → s .closed ≡ false → placeOk s ≡ true → s .position < s .capacity
+unfolding placeOk
+open-place s o e = ltb-true (s .position) (s .capacity) (rw o at e)
+
+pub facts : {s : WriterState} {key image : List ℕ} → Ready s key image → Facts s image
+facts {s} {key} {image} r =
+    let l = lawfully s (capacityOf image) (r .is-lawful) in
+    let c : s .capacity ≡ capacityOf image = l .capacity-is in
+    let w = whole image (r .image-ok) in
+    let z = zoned (s .capacity) (s .zone) (l .zone-ok) in
+    record {
+      blocks = w .blocks ∙ ap (λ (k : ℕ). 512 * k) (sym c);
+      capacity-is = c;
+      most = omega arith;
+      zone-low = z .low;
+      zone-high = z .high;
+      before-held = open-place s (r .is-open) (l .place-ok);
+    }
+
+-- ---- the number: a refusal is the same whatever comes after, and with none the rest decides
+abbrev chain : Bool → Bool → Bool → Bool → ℕ → ℕ
+chain a b c d rest = firstOf a 1 (firstOf b 2 (firstOf c 8 (firstOf d 6 rest)))
+
+chain-refused : (a b c d : Bool) (rest : ℕ) → (chain a b c d 0 ≡ 0 → ⊥) → chain a b c d rest ≡ chain a b c d 0
+chain-refused false b c d rest n = refl
+chain-refused true false c d rest n = refl
+chain-refused true true false d rest n = refl
+chain-refused true true true false rest n = refl
+chain-refused true true true true rest n = absurd (n refl)
+
+pub call-refused : (s : WriterState) (key image : List ℕ) (rest : ℕ) → (closeNumber s key image ≡ 0 → ⊥) → callNumber s key image rest ≡ closeNumber s key image
+unfolding callNumber closeNumber
+call-refused s key image rest n =
+    chain-refused (imageOk image) (eqb (length key) 24) (lawful s (capacityOf image)) (not (s .closed)) rest n
+
+pub call-asks : {s : WriterState} {key image : List ℕ} → Ready s key image → (rest : ℕ) → callNumber s key image rest ≡ rest
+unfolding callNumber
+call-asks {s} {key} {image} r rest = rw (r .image-ok, eq-eqb (length key) 24 (r .key24), r .is-lawful, r .is-open)
+
+pub call-ready : (s : WriterState) (key image : List ℕ) (rest : ℕ) → callNumber s key image rest ≡ 0 → Ready s key image × (rest ≡ 0)
+unfolding callNumber
+call-ready s key image rest e =
+    let a = no-refusal (imageOk image) 0 _ e in
+    let b = no-refusal (eqb (length key) 24) 1 _ (a .1) in
+    let c = no-refusal (lawful s (capacityOf image)) 7 _ (b .1) in
+    let d = no-refusal (not (s .closed)) 5 rest (c .1) in
+    (record { image-ok = a .0; key24 = eqb-true (length key) 24 (b .0); is-lawful = c .0; is-open = not-true (s .closed) (d .0) }, d .1)
+
+pub close-ready : (s : WriterState) (key image : List ℕ) → closeNumber s key image ≡ 0 → Ready s key image
+unfolding closeNumber
+close-ready s key image e = call-ready s key image 0 e .0
+
+pub item-refused : (s : WriterState) (key image : List ℕ) (i : Item) → (closeNumber s key image ≡ 0 → ⊥) → itemNumber s key image i ≡ closeNumber s key image
+unfolding itemNumber
+item-refused s key image i n = call-refused s key image _ n
+
+pub item-asks : {s : WriterState} {key image : List ℕ} → Ready s key image → (i : Item)
+    → itemNumber s key image i ≡ firstOf (lengthOk i) 4 (firstOf (room (s .capacity) (s .position) (size i)) 5 0)
+unfolding itemNumber
+item-asks r i = call-asks r _
+
+-- an item that is not refused
+pub record Fits (s : WriterState) (key image : List ℕ) (i : Item) : Type 0 where
+  pub ready : Ready s key image
+  pub length-ok : lengthOk i ≡ true
+  pub room-ok : s .position + size i < s .capacity
+
+pub item-fits : (s : WriterState) (key image : List ℕ) (i : Item) → itemNumber s key image i ≡ 0 → Fits s key image i
+unfolding itemNumber room
+item-fits s key image i e =
+    let a = call-ready s key image _ e in
+    let b = no-refusal (lengthOk i) 3 _ (a .1) in
+    let c = no-refusal (ltb (s .position + size i) (s .capacity)) 4 0 (b .1) in
+    record { ready = a .0; length-ok = b .0; room-ok = ltb-true (s .position + size i) (s .capacity) (c .0) }
+
+-- a record's length is 1 to 31,232, and it takes 64 blocks at most
+pub record Lengthy (b : List ℕ) : Type 0 where
+  pub low : 1 ≤ length b
+  pub high : length b ≤ 31232
+  pub some : 1 ≤ blocksFor (length b)
+  pub few : blocksFor (length b) ≤ 64
+
+pub lengthy : (b : List ℕ) → lengthOk (rec b) ≡ true → Lengthy b
+unfolding blocksFor
+lengthy b e =
+    let l = leb-true 1 (length b) (both-left (leb 1 (length b)) (leb (length b) 31232) e) in
+    let h = leb-true (length b) 31232 (both-right (leb 1 (length b)) (leb (length b) 31232) e) in
+    record { low = l; high = h; some = omega arith; few = omega arith }

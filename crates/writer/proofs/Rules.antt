@@ -1,0 +1,195 @@
+-- The rules of writing, of the definitions `start`, `write` and `close`: what is taken, what a refusal leaves, how far the position moves,
+-- when a record is warned, and that the state stays lawful.
+-- Assumes nothing.
+use borrow.Author.Tests.{lt-ltb, le-ltb, ltb-true, le-leb, eq-eqb}
+use mathlib.Core.Path.{_≡_, refl, sym, ap, _∙_}
+use mathlib.Core.Bool.{Bool, true, false, _&&_}
+use mathlib.Core.List.{List}
+use Prim.Native.Nat.{ℕ, suc, _+_, _-_, _≤_, _<_}
+use native.Mathlib.Omega.{arith}
+use lib.Dec.{eqb, ltb}
+use Rattle.laws.specs.Choose.{pick, firstOf}
+use Rattle.laws.proofs.ChooseLaws.{no-refusal}
+use Rattle.block.specs.Image.{capacityOf, imageOk}
+use Rattle.writer.specs.declared.WriterState.{WriterState}
+use Rattle.writer.specs.declared.Reply.the-variants.{Plain, Warned, Refused}
+use Rattle.writer.specs.Items.{Item, rec, fmark, size}
+use Rattle.writer.specs.Writing.{numberOf, zoneOk, placeOk, lawful, lengthOk, room, startNumber, itemNumber, closeNumber}
+use Rattle.writer.specs.Writing.{Done, stay, judged, moved, warns, none, started, taken, ended, start, write, close}
+use Rattle.writer.proofs.Judged.{judged-number}
+use Rattle.writer.proofs.Ready.{Ready, facts, Lawful, lawfully, lawful-holds, whole, call-asks, close-ready, item-asks, item-fits}
+
+-- ---- the number in the answer is that of the first cause, and 0 says that the call was taken
+warns-0 : (s : WriterState) (i : Item) (p : ℕ) → numberOf (warns s i p) ≡ 0
+warns-0 s (rec b) p = either (ltb (s .capacity - s .zone) p)
+  where
+    either : (t : Bool) → numberOf (pick t Warned Plain) ≡ 0
+    either true = refl
+    either false = refl
+warns-0 s fmark p = refl
+
+pub write-number : (s : WriterState) (key image : List ℕ) (i : Item) → numberOf (write s key image i .reply) ≡ itemNumber s key image i
+unfolding write
+write-number s key image i = judged-number (taken s key image i) s image (warns-0 s i (s .position + size i)) (itemNumber s key image i)
+
+pub close-number : (s : WriterState) (key image : List ℕ) → numberOf (close s key image .reply) ≡ closeNumber s key image
+unfolding close
+close-number s key image = judged-number (ended s key image) s image refl (closeNumber s key image)
+
+pub start-number : (id recording e : ℕ) (image : List ℕ) → numberOf (start id recording e image .reply) ≡ startNumber image e
+unfolding start
+start-number id recording e image = judged-number (started id recording e image) none _ refl (startNumber image e)
+
+-- ---- what a call is, by its number
+pub write-when : (s : WriterState) (key image : List ℕ) (i : Item) (n : ℕ) → numberOf (write s key image i .reply) ≡ n
+    → write s key image i ≡ judged (taken s key image i) s image n
+unfolding write
+write-when s key image i n e = ap (judged (taken s key image i) s image) (sym (write-number s key image i) ∙ e)
+
+pub close-when : (s : WriterState) (key image : List ℕ) (n : ℕ) → numberOf (close s key image .reply) ≡ n
+    → close s key image ≡ judged (ended s key image) s image n
+unfolding close
+close-when s key image n e = ap (judged (ended s key image) s image) (sym (close-number s key image) ∙ e)
+
+pub start-when : (id recording e : ℕ) (image : List ℕ) (n : ℕ) → numberOf (start id recording e image .reply) ≡ n
+    → start id recording e image ≡ judged (started id recording e image) none image n
+unfolding start
+start-when id recording e image n q = ap (judged (started id recording e image) none image) (sym (start-number id recording e image) ∙ q)
+
+-- ---- taken exactly
+-- Refused is never said with the number 0, so that the number 0 is what taken means
+warns-taken : (s : WriterState) (i : Item) (p m : ℕ) → warns s i p ≡ Refused m → ⊥
+warns-taken s (rec b) p m e = either (ltb (s .capacity - s .zone) p) e
+  where
+    either : (t : Bool) → pick t Warned Plain ≡ Refused m → ⊥
+    either true e = let z : _≡_ {A = ℕ} 0 1 = cc in omega arith
+    either false e = let z : _≡_ {A = ℕ} 0 1 = cc in omega arith
+warns-taken s fmark p m e = let z : _≡_ {A = ℕ} 0 1 = cc in omega arith
+
+pub number-0-taken : (s : WriterState) (key image : List ℕ) (i : Item) (m : ℕ) → numberOf (write s key image i .reply) ≡ 0
+    → write s key image i .reply ≡ Refused m → ⊥
+number-0-taken s key image i m e r =
+    warns-taken s i (s .position + size i) m (sym (ap (λ (d : Done). d .reply) (write-when s key image i 0 e)) ∙ r)
+
+-- an item of k blocks at p of c: taken exactly if p + k ≤ c - 1, and else refused 5
+module _ (s : WriterState) (key image : List ℕ) (i : Item) (r : Ready s key image) (l : lengthOk i ≡ true) where
+  number-is : numberOf (write s key image i .reply) ≡ firstOf (room (s .capacity) (s .position) (size i)) 5 0
+  number-is = write-number s key image i ∙ item-asks r i ∙ rw l
+
+  pub taken-exactly : (numberOf (write s key image i .reply) ≡ 0 → s .position + size i ≤ s .capacity - 1)
+      × (s .position + size i ≤ s .capacity - 1 → numberOf (write s key image i .reply) ≡ 0)
+  unfolding room
+  taken-exactly = (
+    λ e. let t = item-fits s key image i (sym (write-number s key image i) ∙ e) in omega arith,
+    λ h.
+        let f = facts r in
+        let t : s .position + size i < s .capacity = omega arith in
+        number-is ∙ rw (lt-ltb (s .position + size i) (s .capacity) t),
+  )
+
+  pub refused-5 : s .capacity ≤ s .position + size i → write s key image i .reply ≡ Refused 5
+  unfolding room
+  refused-5 h =
+      ap (λ (d : Done). d .reply) (write-when s key image i 5 (number-is ∙ rw (le-ltb (s .position + size i) (s .capacity) h)))
+
+-- while open there is room for the closing
+pub room-for-closing : (s : WriterState) (key image : List ℕ) → Ready s key image → (close s key image .reply ≡ Plain) × (s .position + 1 ≤ s .capacity)
+unfolding closeNumber
+room-for-closing s key image r =
+    let f = facts r in
+    (ap (λ (d : Done). d .reply) (close-when s key image 0 (close-number s key image ∙ call-asks r 0)), omega arith)
+
+-- ---- refused, all stays
+pub refused-leaves : (s : WriterState) (key image : List ℕ) (i : Item) (n : ℕ) → numberOf (write s key image i .reply) ≡ suc n
+    → write s key image i ≡ stay s image (suc n)
+refused-leaves s key image i n e = write-when s key image i (suc n) e
+
+pub refused-closing : (s : WriterState) (key image : List ℕ) (n : ℕ) → numberOf (close s key image .reply) ≡ suc n
+    → close s key image ≡ stay s image (suc n)
+refused-closing s key image n e = close-when s key image (suc n) e
+
+-- a refused start leaves the image, and its state is lawful for no image
+and-false : (t : Bool) → (t && false) ≡ false
+and-false true = refl
+and-false false = refl
+
+pub refused-start : (id recording e : ℕ) (image : List ℕ) (n : ℕ) → numberOf (start id recording e image .reply) ≡ suc n
+    → (start id recording e image .image ≡ image) × ((c : ℕ) → lawful (start id recording e image .state) c ≡ false)
+unfolding lawful zoneOk
+refused-start id recording e image n q =
+    let w = start-when id recording e image (suc n) q in
+    (ap (λ (d : Done). d .image) w, λ c. rw w (and-false (eqb 0 c)))
+
+-- ---- the position moves by the item's size, by one at the closing
+pub moves-by-size : (s : WriterState) (key image : List ℕ) (i : Item) → numberOf (write s key image i .reply) ≡ 0
+    → write s key image i .state ≡ moved s (s .position + size i) false
+moves-by-size s key image i e = ap (λ (d : Done). d .state) (write-when s key image i 0 e)
+
+pub closing-moves-by-1 : (s : WriterState) (key image : List ℕ) → numberOf (close s key image .reply) ≡ 0
+    → close s key image .state ≡ moved s (s .position + 1) true
+closing-moves-by-1 s key image e = ap (λ (d : Done). d .state) (close-when s key image 0 e)
+
+-- ---- warned exactly
+pub warned-says : (s : WriterState) (key image : List ℕ) (i : Item) → numberOf (write s key image i .reply) ≡ 0
+    → write s key image i .reply ≡ warns s i (s .position + size i)
+warned-says s key image i e = ap (λ (d : Done). d .reply) (write-when s key image i 0 e)
+
+plain-or-warned : (t : Bool) → pick t Warned Plain ≡ Warned → t ≡ true
+plain-or-warned true e = refl
+plain-or-warned false e = let z : _≡_ {A = ℕ} 0 1 = cc in absurd (omega arith)
+
+pub warned-exactly : (s : WriterState) (key image : List ℕ) (b : List ℕ) → numberOf (write s key image (rec b) .reply) ≡ 0
+    → (write s key image (rec b) .reply ≡ Warned → s .capacity - s .zone < s .position + size (rec b))
+    × (s .capacity - s .zone < s .position + size (rec b) → write s key image (rec b) .reply ≡ Warned)
+warned-exactly s key image b e =
+    let w = warned-says s key image (rec b) e in
+    let p = s .position + size (rec b) in (
+      λ r. ltb-true (s .capacity - s .zone) p (plain-or-warned (ltb (s .capacity - s .zone) p) (sym w ∙ r)),
+      λ h. w ∙ rw (lt-ltb (s .capacity - s .zone) p h),
+    )
+
+pub mark-plain : (s : WriterState) (key image : List ℕ) → numberOf (write s key image fmark .reply) ≡ 0 → write s key image fmark .reply ≡ Plain
+mark-plain s key image e = warned-says s key image fmark e
+
+pub closing-plain : (s : WriterState) (key image : List ℕ) → numberOf (close s key image .reply) ≡ 0 → close s key image .reply ≡ Plain
+closing-plain s key image e = ap (λ (d : Done). d .reply) (close-when s key image 0 e)
+
+-- ---- the state stays lawful
+open-holds : (s : WriterState) (p c : ℕ) → Lawful s c → p < c → lawful (moved s p false) c ≡ true
+unfolding placeOk
+open-holds s p c l h =
+    lawful-holds (moved s p false) c
+    (record { capacity-is = l .capacity-is; zone-ok = l .zone-ok; place-ok = lt-ltb p (s .capacity) (omega (arith, l .capacity-is)) })
+
+pub stays-lawful : (s : WriterState) (key image : List ℕ) (i : Item) → numberOf (write s key image i .reply) ≡ 0
+    → lawful (write s key image i .state) (capacityOf image) ≡ true
+stays-lawful s key image i e =
+    let t = item-fits s key image i (sym (write-number s key image i) ∙ e) in
+    let f = facts (t .ready) in
+    rw (moves-by-size s key image i e)
+    (open-holds s (s .position + size i) (capacityOf image) (lawfully s (capacityOf image) (t .ready .is-lawful)) (omega arith))
+
+closed-holds : (s : WriterState) (p c : ℕ) → Lawful s c → 1 ≤ p → p ≤ c → lawful (moved s p true) c ≡ true
+unfolding placeOk
+closed-holds s p c l n h =
+    let m : p ≤ s .capacity = omega (arith, l .capacity-is) in
+    lawful-holds (moved s p true) c
+    (record { capacity-is = l .capacity-is; zone-ok = l .zone-ok; place-ok = rw (le-leb 1 p n, le-leb p (s .capacity) m) })
+
+pub closing-stays-lawful : (s : WriterState) (key image : List ℕ) → numberOf (close s key image .reply) ≡ 0
+    → lawful (close s key image .state) (capacityOf image) ≡ true
+closing-stays-lawful s key image e =
+    let r = close-ready s key image (sym (close-number s key image) ∙ e) in
+    let f = facts r in
+    rw (closing-moves-by-1 s key image e)
+    (closed-holds s (s .position + 1) (capacityOf image) (lawfully s (capacityOf image) (r .is-lawful)) (omega arith) (omega arith))
+
+pub start-lawful : (id recording e : ℕ) (image : List ℕ) → numberOf (start id recording e image .reply) ≡ 0
+    → lawful (start id recording e image .state) (capacityOf image) ≡ true
+unfolding startNumber lawful placeOk
+start-lawful id recording e image q =
+    let a = no-refusal (imageOk image) 0 _ (sym (start-number id recording e image) ∙ q) in
+    let z = no-refusal (zoneOk (capacityOf image) e) 2 0 (a .1) in
+    let w = whole image (a .0) in
+    let h : 0 < capacityOf image = omega arith in
+    rw (start-when id recording e image 0 q) (rw (eq-eqb (capacityOf image) (capacityOf image) refl, z .0, lt-ltb 0 (capacityOf image) h))

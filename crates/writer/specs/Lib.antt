@@ -1,0 +1,4 @@
+-- What writing a cartridge is.
+pub mod Items
+pub mod Writing
+pub mod Cases

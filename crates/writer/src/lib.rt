@@ -1,0 +1,292 @@
+// The writer: a state by value that comes back from each call, an image that is lent.
+ghost use mathlib.Core.Path.{_≡_};
+ghost use mathlib.Core.List.{[]};
+ghost use Prim.Native.Nat.{_+_, _*_, _≤_, _<_};
+ghost use lib.ListN.{length};
+ghost use Rattle.block.specs.Format.{blockOf, sealBlock};
+ghost use Rattle.block.specs.Image.{put, lay};
+ghost use Rattle.writer.specs.Items.{rec, fmark, blocksFor, blocks, pieceAt};
+ghost use Rattle.writer.specs.Writing.{zoneOk, lawful, itemNumber, closeNumber, start, write, close, Did};
+
+pub struct WriterState {
+    pub id: u32,
+    pub recording: u64,
+    pub capacity: usize,
+    pub zone: usize,
+    pub position: usize,
+    pub closed: bool,
+}
+
+pub enum Reply {
+    Plain,
+    Warned,
+    Refused(u8),
+}
+
+pub struct Wrote {
+    pub state: WriterState,
+    pub reply: Reply,
+}
+
+// ---- Start.
+fn is_zone(c: usize, e: usize) -> bool
+    ensures { λ r. ⌜ r ≡ zoneOk c e ⌝ }
+{
+    if e < 1 {
+        return false;
+    }
+    e < c
+}
+
+// Fills the image with zeros and gives the state at block 0, open. 1: the image; 3: the zone; then the image stays, and the state is
+// lawful for no image.
+pub fn start(id: u32, recording: u64, zone: usize, image: &mut [u8]) -> Wrote
+    ensures { λ r. ⌜ Did (start id recording zone (now (image .entry))) r (now (image .exit)) ⌝ }
+{
+    let none = WriterState {
+        id: 0,
+        recording: 0,
+        capacity: 0,
+        zone: 0,
+        position: 0,
+        closed: true,
+    };
+    if !block::is_image(image.len()) {
+        return Wrote {
+            state: none,
+            reply: Reply::Refused(1),
+        };
+    }
+    let capacity = image.len() / 512;
+    if !is_zone(capacity, zone) {
+        return Wrote {
+            state: none,
+            reply: Reply::Refused(3),
+        };
+    }
+    buffer::zero(image);
+    let state = WriterState {
+        id,
+        recording,
+        capacity,
+        zone,
+        position: 0,
+        closed: false,
+    };
+    Wrote {
+        state,
+        reply: Reply::Plain,
+    }
+}
+
+// ---- A record's blocks.
+// The blocks that a record of n bytes takes.
+fn blocks_for(n: usize) -> usize
+    requires { ⌜ n ≤ 31232 ⌝ }
+    ensures { λ r. ⌜ (r ≡ blocksFor n) × (r ≤ 64) ⌝ }
+{
+    (n + 487) / 488
+}
+
+// Seals block i of the k blocks of a record at p + i: the image is lent on from there.
+fn lay_piece(
+    key: &[u8],
+    id: u32,
+    recording: u64,
+    p: usize,
+    bytes: &[u8],
+    k: usize,
+    i: usize,
+    image: &mut [u8],
+)
+    requires { ⌜ (length (now key) ≡ 24) × ((p + i) * 512 + 512 ≤ length (now image)) × (p + i < 128) × (i < k) × (k ≡ blocksFor (length (now bytes))) ⌝ }
+    ensures { λ _. ⌜ now (image .exit) ≡ put (now (image .entry)) (p + i) (sealBlock (now (key .entry)) id recording (p + i) (pieceAt (now (bytes .entry)) k i)) ⌝ }
+{
+    let at = (p + i) * 512;
+    let from = i * 488;
+    let last = i + 1 == k;
+    let to = if last { bytes.len() } else { from + 488 };
+    let kind = if i == 0 { 1u8 } else { 2u8 };
+    block::seal_block(
+        key,
+        id,
+        recording,
+        (p + i) as u32,
+        kind,
+        last,
+        &bytes[from..to],
+        &mut image[at..],
+    );
+}
+
+// Lays the k blocks of a record from block p on.
+fn lay_record(
+    key: &[u8],
+    id: u32,
+    recording: u64,
+    p: usize,
+    bytes: &[u8],
+    k: usize,
+    image: &mut [u8],
+)
+    requires { ⌜ (length (now key) ≡ 24) × ((p + k) * 512 ≤ length (now image)) × (p + k ≤ 128) × (k ≡ blocksFor (length (now bytes))) ⌝ }
+    ensures { λ _. ⌜ now (image .exit) ≡ lay (now (key .entry)) id recording (now (image .entry)) p (blocks (rec (now (bytes .entry)))) ⌝ }
+{
+    for i in 0..k {
+        lay_piece(key, id, recording, p, bytes, k, i, image);
+    }
+}
+
+// Lays a block that has no payload, a file mark or end of data, at p.
+fn lay_empty(key: &[u8], id: u32, recording: u64, p: usize, kind: u8, image: &mut [u8])
+    requires { ⌜ (length (now key) ≡ 24) × (p * 512 + 512 ≤ length (now image)) × (p < 128) × (1 ≤ kind) × (kind ≤ 4) ⌝ }
+    ensures { λ _. ⌜ now (image .exit) ≡ put (now (image .entry)) p (blockOf (now (key .entry)) id recording p kind 0 []) ⌝ }
+{
+    let at = p * 512;
+    block::seal_block(
+        key,
+        id,
+        recording,
+        p as u32,
+        kind,
+        false,
+        &key[..0],
+        &mut image[at..],
+    );
+}
+
+impl WriterState {
+    // Whether the state is lawful for an image of c blocks: any numbers may stand in its fields.
+    fn is_lawful(self, c: usize) -> bool
+        ensures { λ r. ⌜ r ≡ lawful self c ⌝ }
+    {
+        if self.capacity != c {
+            return false;
+        }
+        if !is_zone(self.capacity, self.zone) {
+            return false;
+        }
+        if self.closed {
+            if self.position < 1 {
+                return false;
+            }
+            return self.position <= self.capacity;
+        }
+        self.position < self.capacity
+    }
+
+    // What every call asks first: 1, 2, 8, 6, or 0.
+    fn call_number(self, key: &[u8], image: &[u8]) -> u8
+        ensures { λ r. ⌜ r ≡ closeNumber self (now (key .entry)) (now (image .entry)) ⌝ }
+    {
+        if !block::is_image(image.len()) {
+            return 1;
+        }
+        if key.len() != 24 {
+            return 2;
+        }
+        if !self.is_lawful(image.len() / 512) {
+            return 8;
+        }
+        if self.closed {
+            return 6;
+        }
+        0
+    }
+
+    // The number of a record of n bytes.
+    fn record_number(self, key: &[u8], bytes: &[u8], image: &[u8]) -> u8
+        ensures { λ r. ⌜ r ≡ itemNumber self (now (key .entry)) (now (image .entry)) (rec (now (bytes .entry))) ⌝ }
+    {
+        let number = self.call_number(key, image);
+        if number != 0 {
+            return number;
+        }
+        if bytes.len() < 1 {
+            return 4;
+        }
+        if 31232 < bytes.len() {
+            return 4;
+        }
+        if self.position + blocks_for(bytes.len()) < self.capacity {
+            0
+        } else {
+            5
+        }
+    }
+
+    // Writes a record behind what is there: 1, 2, 8, 6, 4, 5. Refused, the given state comes back and the image stays.
+    pub fn record(self, key: &[u8], bytes: &[u8], image: &mut [u8]) -> Wrote
+        ensures { λ r. ⌜ Did (write self (now (key .entry)) (now (image .entry)) (rec (now (bytes .entry)))) r (now (image .exit)) ⌝ }
+    {
+        let number = self.record_number(key, bytes, image);
+        if number != 0 {
+            return Wrote {
+                state: self,
+                reply: Reply::Refused(number),
+            };
+        }
+        let k = blocks_for(bytes.len());
+        let p = self.position;
+        lay_record(key, self.id, self.recording, p, bytes, k, image);
+        let mut state = self;
+        state.position = p + k;
+        if self.capacity - self.zone < p + k {
+            return Wrote {
+                state,
+                reply: Reply::Warned,
+            };
+        }
+        Wrote {
+            state,
+            reply: Reply::Plain,
+        }
+    }
+
+    // Writes a file mark: 1, 2, 8, 6, 5.
+    pub fn mark(mut self, key: &[u8], image: &mut [u8]) -> Wrote
+        ensures { λ r. ⌜ Did (write self (now (key .entry)) (now (image .entry)) fmark) r (now (image .exit)) ⌝ }
+    {
+        let number = self.call_number(key, image);
+        if number != 0 {
+            return Wrote {
+                state: self,
+                reply: Reply::Refused(number),
+            };
+        }
+        let p = self.position;
+        if self.capacity <= p + 1 {
+            return Wrote {
+                state: self,
+                reply: Reply::Refused(5),
+            };
+        }
+        lay_empty(key, self.id, self.recording, p, 3, image);
+        self.position = p + 1;
+        Wrote {
+            state: self,
+            reply: Reply::Plain,
+        }
+    }
+
+    // Writes end of data into the held block or before it: 1, 2, 8, 6.
+    pub fn close(mut self, key: &[u8], image: &mut [u8]) -> Wrote
+        ensures { λ r. ⌜ Did (close self (now (key .entry)) (now (image .entry))) r (now (image .exit)) ⌝ }
+    {
+        let number = self.call_number(key, image);
+        if number != 0 {
+            return Wrote {
+                state: self,
+                reply: Reply::Refused(number),
+            };
+        }
+        let at = self.position;
+        lay_empty(key, self.id, self.recording, at, 4, image);
+        self.position = at + 1;
+        self.closed = true;
+        Wrote {
+            state: self,
+            reply: Reply::Plain,
+        }
+    }
+}
