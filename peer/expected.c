@@ -2,6 +2,7 @@
 #include <stdio.h>
 #include <string.h>
 
+#include "edges.h"
 #include "rehearsal.h"
 #include "vectors.h"
 
@@ -12,6 +13,7 @@ static const struct {
     {"vectors.stdin", vectors_stdin},
     {"vectors.stdout", vectors_stdout},
     {"rehearse.stdout", rehearsal_stdout},
+    {"edges.stdout", edges_stdout},
 };
 
 #define FILES (sizeof files / sizeof files[0])

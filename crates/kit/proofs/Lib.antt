@@ -1,0 +1,3 @@
+-- What crosses to C.
+pub mod Crossing
+pub mod Unique

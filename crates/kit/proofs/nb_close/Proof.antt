@@ -1,0 +1,39 @@
+-- `kit::nb_close` meets its contract: the writer's call, flat.
+-- Assumes nothing.
+use borrow.Author.Needs.{needs}
+use Rattle.kit.proofs.Crossing.{other-flag, called}
+use Rattle.kit.proofs.nb_close.Statement.{statement}
+use Rattle.kit.proofs.nb_close.Tie as tie
+
+flag-number-requires : tie.Need-flag-number-requires
+flag-number-requires c κs = search needs
+
+same-length : tie.Need-same-length
+same-length c = search needs
+
+returns : tie.Need-returns
+returns c = other-flag (c .before .before .if1 .taken) (c .flag-number .ensures)
+
+close-requires : tie.Need-close-requires
+close-requires c κs = search needs
+
+flat-requires : tie.Need-flat-requires
+flat-requires c κs = search needs
+
+same-length-2 : tie.Need-same-length-2
+same-length-2 c = search needs
+
+returns-2 : tie.Need-returns-2
+returns-2 c = called (c .before .before .before .before .before .if1 .left) (c .before .before .before .close .ensures) (c .flat .ensures)
+
+pub nb-close-spec : {M : Type 1} → statement M
+nb-close-spec =
+    tie.close
+    (tie.spec
+    flag-number-requires
+    same-length
+    returns
+    close-requires
+    flat-requires
+    same-length-2
+    returns-2)

@@ -1,0 +1,2 @@
+-- How structs and enums cross to C: as numbers.
+pub mod FlatWriter
