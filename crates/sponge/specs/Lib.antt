@@ -1,4 +1,3 @@
 -- What the four block operations of BLNK are.
 pub mod Blink
 pub mod Ways
-pub mod Cases

@@ -1,4 +1,3 @@
 -- What writing a cartridge is.
 pub mod Items
 pub mod Writing
-pub mod Cases

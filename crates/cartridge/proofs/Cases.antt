@@ -1,0 +1,23 @@
+-- The cases at the edges hold: one theorem over the table.
+-- Assumes nothing.
+use mathlib.Core.Path.{_≡_, refl}
+use mathlib.Core.List.{List, [], _∷_}
+use Rattle.laws.specs.Lists.{listed}
+use Rattle.laws.specs.Xor.{xor, xorAll}
+use Rattle.permutation.specs.Table.{S, table}
+use Rattle.permutation.specs.Field.{only, double, timesBits, times}
+use Rattle.permutation.specs.Permutation.{state, target, first, turned, mixWith, mix}
+use Rattle.sponge.specs.Blink.{into, padded}
+use Rattle.block.specs.Image.{capacityOf, sizeOk, imageOk}
+use Rattle.writer.specs.Items.{blocksFor}
+use Rattle.writer.specs.Writing.{zoneOk, placeOk, lawful, room, callNumber, itemNumber, write}
+use Rattle.cartridge.specs.Cases.{Case, one-then-zeros, closed, recordAt, endsAt, cases}
+
+pub data All : List Case → Type 0 where
+  none : All []
+  more : {c : Case} {cs : List Case} → c .found ≡ c .said → All cs → All (c ∷ cs)
+
+pub cases-hold : All cases
+unfolding cases one-then-zeros closed recordAt endsAt S table xor xorAll listed only double timesBits times state target first turned mixWith mix into padded capacityOf sizeOk imageOk blocksFor zoneOk placeOk lawful room callNumber itemNumber write
+cases-hold =
+    more refl (more refl (more refl (more refl (more refl (more refl (more refl (more refl (more refl (more refl (more refl (more refl (more refl none))))))))))))

@@ -1,0 +1,7 @@
+-- Demand 3, step by step.
+pub mod Scan
+pub mod Laid
+pub mod Survive
+pub mod Made
+pub mod Demand3
+pub mod Cases

@@ -1,0 +1,44 @@
+-- Demand 3 over views: what a walk of a spoiled cartridge hands out.
+-- Assumes nothing.
+use mathlib.Core.Path.{_≡_, refl, _∙_}
+use mathlib.Core.Bool.{Bool, true, false}
+use mathlib.Core.List.{List, [], _∷_}
+use Prim.Native.Nat.{ℕ, suc, _+_, _≤_, _<_}
+use native.Mathlib.Nat.{zero-add}
+use native.Mathlib.Omega.{arith}
+use lib.ListN.{length}
+use Rattle.block.specs.Content.{Content, Shut}
+use Rattle.block.specs.Image.{View}
+use Rattle.writer.specs.Items.{Item}
+use Rattle.reader.specs.Walk.{walk}
+use Rattle.cartridge.specs.Handed.{handed}
+use Rattle.cartridge.specs.Recovered.{intact}
+use Rattle.cartridge.proofs.Scan.{walk-scan, walk-length}
+use Rattle.cartridge.proofs.Laid.{Now, Seen, Stands, Blank, AllSound, sizes, closed, scan-closed, length-closed}
+
+-- w is v, but that at the spoiled places among the c first P holds of what opens
+pub record Spoiled (P : Content → Type 0) (c : ℕ) (sp : ℕ → Bool) (v w : View) : Type 0 where
+  pub kept : (p : ℕ) → p < c → sp p ≡ false → w p ≡ v p
+  pub lost : (p : ℕ) → p < c → sp p ≡ true → P (w p)
+
+pub spoiled-seen : (P : Content → Type 0) (c : ℕ) (sp : ℕ → Bool) (v w : View) (s : ℕ) (bs : List Content) → Spoiled P c sp v w → Stands v s bs → s + length bs ≤ c → Seen P sp w s bs
+spoiled-seen P c sp v w s [] d k h = tt
+spoiled-seen P c sp v w s (b ∷ bs) d k h = (go (sp s) refl, spoiled-seen P c sp v w (suc s) bs d (k .1) (omega arith))
+  where
+    go : (t : Bool) → sp s ≡ t → Now P t (w s) b
+    go true e = d .lost s (omega arith) e
+    go false e = d .kept s (omega arith) e ∙ k .0
+
+spoiled-blank : (c : ℕ) (sp : ℕ → Bool) (v w : View) (s : ℕ) → Spoiled Shut c sp v w → Blank v s c → Blank w s c
+unfolding Blank
+spoiled-blank c sp v w s d k p a b = go (sp p) refl
+  where
+    go : (t : Bool) → sp p ≡ t → Shut (w p)
+    go true e = d .lost p b e
+    go false e = rw (d .kept p b e) (k p a b)
+
+pub survive : (c : ℕ) (sp : ℕ → Bool) (v w : View) (is : List Item) → AllSound is → Stands v 0 (closed is) → Blank v (sizes is + 1) c → sizes is + 1 ≤ c → Spoiled Shut c sp v w
+    → (handed (walk w c) ≡ intact sp 0 is) × (length (walk w c) ≤ c)
+survive c sp v w is d k b e x =
+    ( walk-scan w c ∙ scan-closed is sp w c 0 c d (spoiled-seen Shut c sp v w 0 (closed is) x k (omega (arith, length-closed is))) (rw zero-add (spoiled-blank c sp v w (sizes is + 1) x b)) (omega arith) e
+    , walk-length w c)

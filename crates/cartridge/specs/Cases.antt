@@ -1,0 +1,70 @@
+-- The cases at the edges that 01 marks P, one table: what the definitions give, and what the page says.
+use mathlib.Core.Bool.{false}
+use mathlib.Core.List.{List, [], _∷_}
+use Prim.Native.Nat.{ℕ, _-_}
+use lib.ListN.{getD, take, replicate}
+use Rattle.permutation.specs.Table.{S}
+use Rattle.permutation.specs.Field.{only, double}
+use Rattle.permutation.specs.Permutation.{state, target, mix}
+use Rattle.sponge.specs.Blink.{padded}
+use Rattle.writer.specs.declared.Reply.{Reply}
+use Rattle.writer.specs.declared.Reply.the-variants.{Plain, Warned, Refused}
+use Rattle.writer.specs.Items.{rec, blocksFor}
+use Rattle.writer.specs.Writing.{numberOf, Done, write}
+
+pub record Case : Type 0 where
+  pub found : List ℕ
+  pub said : List ℕ
+
+unfoldable pub one-then-zeros : List ℕ
+one-then-zeros = state (λ k. only (1 - k) 1)
+
+-- a zero state that is closed after n bytes
+unfoldable pub closed : ℕ → ℕ → List ℕ
+closed domain n = padded false domain n (replicate 64 0)
+
+-- a record of n zeros at block p of a recording with c = 16 and e = 4
+unfoldable pub recordAt : ℕ → ℕ → Done
+recordAt p n =
+    write (record { id = 0; recording = 0; capacity = 16; zone = 4; position = p; closed = false }) (replicate 24 0) (replicate 8192 0)
+    (rec (replicate n 0))
+
+-- 1 where the answer warns
+abbrev pub warning : Reply → ℕ
+warning Plain = 0
+warning Warned = 1
+warning (Refused n) = 0
+
+-- where a record of one block at p ends, and whether it is warned
+unfoldable pub endsAt : ℕ → List ℕ
+endsAt p = recordAt p 1 .state .position ∷ warning (recordAt p 1 .reply) ∷ []
+
+unfoldable pub cases : List Case
+cases =
+    -- P1 substitution of 00
+    record { found = S 0x00 ∷ []; said = 0x18 ∷ [] } ∷
+    -- P2 of 01
+    record { found = S 0x01 ∷ []; said = 0x23 ∷ [] } ∷
+    -- P3 of 80
+    record { found = S 0x80 ∷ []; said = 0x97 ∷ [] } ∷
+    -- P4 doubling of 80
+    record { found = double 0x80 ∷ []; said = 0x1D ∷ [] } ∷
+    -- P5 where shift moves byte 9
+    record { found = target 9 ∷ []; said = 17 ∷ [] } ∷
+    -- P6 byte 63
+    record { found = target 63 ∷ []; said = 55 ∷ [] } ∷
+    -- P7 mix of 01 and seven zeros
+    record { found = take 8 (mix one-then-zeros); said = 0x01 ∷ 0x01 ∷ 0x04 ∷ 0x01 ∷ 0x08 ∷ 0x05 ∷ 0x02 ∷ 0x09 ∷ [] } ∷
+    -- P8 closing a 24-byte key: bytes 24 and 32
+    record { found = getD (closed 0x10 24) 24 0 ∷ getD (closed 0x10 24) 32 0 ∷ []; said = 0x01 ∷ 0x12 ∷ [] } ∷
+    -- P9 closing 32 bytes of associated data: byte 32
+    record { found = getD (closed 0x40 32) 32 0 ∷ []; said = 0x43 ∷ [] } ∷
+    -- P10 lengths: their blocks
+    record { found = blocksFor 488 ∷ blocksFor 489 ∷ blocksFor 31232 ∷ []; said = 1 ∷ 2 ∷ 64 ∷ [] } ∷
+    -- P11 position 12 is not warned
+    record { found = endsAt 11; said = 12 ∷ 0 ∷ [] } ∷
+    -- 13 is
+    record { found = endsAt 12; said = 13 ∷ 1 ∷ [] } ∷
+    -- P12 two blocks at 13 are taken, at 14 refused 5
+    record { found = numberOf (recordAt 13 489 .reply) ∷ numberOf (recordAt 14 489 .reply) ∷ []; said = 0 ∷ 5 ∷ [] } ∷
+    []
