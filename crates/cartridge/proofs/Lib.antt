@@ -5,3 +5,4 @@ pub mod Survive
 pub mod Made
 pub mod Demand3
 pub mod Cases
+pub mod Tail
