@@ -1,0 +1,3 @@
+-- What reading a cartridge is.
+pub mod Walk
+pub mod Reading

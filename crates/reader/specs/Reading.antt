@@ -1,0 +1,133 @@
+-- What the reader's calls promise (01, "Reading" and "Numbers a caller can get back").
+use mathlib.Core.Path.{_≡_}
+use mathlib.Core.Bool.{Bool, true, false}
+use mathlib.Core.List.{List, [], _∷_, _++_}
+use Prim.Native.Nat.{ℕ, zero, suc, _+_, _-_, _*_}
+use lib.Dec.{eqb, leb, ltb}
+use lib.ListN.{length, take, replicate}
+use Rattle.laws.specs.Choose.{pick, firstOf}
+use Rattle.laws.specs.Lists.{splice}
+use Rattle.block.specs.Image.{View, capacityOf, imageOk, blockAt, view}
+use Rattle.reader.specs.declared.Outcome.{Outcome}
+use Rattle.reader.specs.declared.Outcome.the-variants as o
+use Rattle.reader.specs.declared.Got.{Got}
+use Rattle.reader.specs.declared.Spaced.{Spaced}
+use Rattle.reader.specs.declared.Spaced.the-variants as s
+use Rattle.reader.specs.declared.Tally.{Tally}
+use Rattle.reader.specs.Walk.{Told, Record, Mark, End, Bad, Stray, Cut, Answer, readAt, Visit, walk}
+
+-- ---- an outcome as the code says it, and the number of each of its cases
+abbrev pub outcomeOf : Told → Outcome
+outcomeOf (Record b) = o.Record (length b)
+outcomeOf Mark = o.Mark
+outcomeOf End = o.End
+outcomeOf Bad = o.Bad
+outcomeOf Stray = o.Stray
+outcomeOf (Cut q) = o.Cut q
+
+abbrev pub numberOf : Outcome → ℕ
+numberOf (o.Record n) = 0
+numberOf o.Mark = 0
+numberOf o.End = 0
+numberOf o.Bad = 0
+numberOf o.Stray = 0
+numberOf (o.Cut q) = 0
+numberOf (o.Refused n) = n
+
+-- the bytes handed out: a record's
+abbrev pub recordOf : Told → List ℕ
+recordOf (Record b) = b
+recordOf Mark = []
+recordOf End = []
+recordOf Bad = []
+recordOf Stray = []
+recordOf (Cut q) = []
+
+-- ---- read: 1 the image, 2 the key or a buffer under 31,232, 8 the position
+unfoldable pub keyOk : List ℕ → Bool
+keyOk key = eqb (length key) 24
+
+unfoldable pub readNumber : List ℕ → List ℕ → ℕ → ℕ → ℕ
+readNumber key image p room =
+    firstOf (imageOk image) 1 (firstOf (keyOk key) 2 (firstOf (leb 31232 room) 2 (firstOf (ltb p (capacityOf image)) 8 0)))
+
+unfoldable pub readAnswer : List ℕ → ℕ → ℕ → List ℕ → ℕ → Answer
+readAnswer key id recording image p = readAt (view key id recording image) (capacityOf image) p
+
+abbrev pub gotOf : Answer → Got
+gotOf a = record { outcome = outcomeOf (a .told); next = a .next }
+
+-- a record fills the front, the rest of the first 31,232 bytes is zero; bytes past them stay
+unfoldable pub filled : Told → List ℕ
+filled t = recordOf t ++ replicate (31232 - length (recordOf t)) 0
+
+pub record Read (key : List ℕ) (id recording : ℕ) (image : List ℕ) (p : ℕ) (buffer : List ℕ) (r : Got) (buffer′ : List ℕ) : Type 0 where
+  pub says : r ≡ pick (eqb (readNumber key image p (length buffer)) 0) (gotOf (readAnswer key id recording image p))
+      (record { outcome = o.Refused (readNumber key image p (length buffer)); next = p })
+  pub leaves : buffer′ ≡ pick (eqb (readNumber key image p (length buffer)) 0)
+      (splice buffer 0 (filled (readAnswer key id recording image p .told))) buffer
+
+-- ---- the record's part: the front part of the lent buffer; a length beyond it gives the empty part
+unfoldable pub partOf : List ℕ → ℕ → List ℕ
+partOf buffer n = pick (leb n (length buffer)) (take n buffer) []
+
+-- ---- the raw look: 1 the image, 8 the position
+unfoldable pub lookNumber : List ℕ → ℕ → ℕ
+lookNumber image p = firstOf (imageOk image) 1 (firstOf (ltb p (capacityOf image)) 8 0)
+
+unfoldable pub lookPart : List ℕ → ℕ → List ℕ
+lookPart image p = pick (eqb (lookNumber image p) 0) (blockAt image p) []
+
+-- where that part starts in the image
+unfoldable pub lookPlace : List ℕ → ℕ → ℕ
+lookPlace image p = pick (eqb (lookNumber image p) 0) (512 * p) 0
+
+-- ---- spacing over n marks, with m passed: f reads at most
+abbrev pub spaceOn : Told → Spaced → Spaced → Spaced → Spaced
+spaceOn (Record b) mark end on = on
+spaceOn Mark mark end on = mark
+spaceOn End mark end on = end
+spaceOn Bad mark end on = on
+spaceOn Stray mark end on = on
+spaceOn (Cut q) mark end on = on
+
+unfoldable pub spaceFrom : ℕ → View → ℕ → ℕ → ℕ → ℕ → Spaced
+spaceFrom zero v c p n m = pick (eqb n 0) (s.At p) (s.Short m p)
+spaceFrom (suc f) v c p n m =
+    pick (eqb n 0) (s.At p)
+    (pick (ltb p c)
+    (spaceOn (readAt v c p .told) (spaceFrom f v c (readAt v c p .next) (n - 1) (m + 1)) (s.Short m p) (spaceFrom f v c (readAt v c p .next) n m))
+    (s.Short m p))
+
+unfoldable pub spaceNumber : List ℕ → List ℕ → ℕ → ℕ
+spaceNumber key image p = firstOf (imageOk image) 1 (firstOf (keyOk key) 2 (firstOf (ltb p (capacityOf image)) 8 0))
+
+unfoldable pub spacing : List ℕ → ℕ → ℕ → List ℕ → ℕ → ℕ → Spaced
+spacing key id recording image p n =
+    pick (eqb (spaceNumber key image p) 0)
+    (spaceFrom (capacityOf image - p) (view key id recording image) (capacityOf image) p n 0)
+    (s.Refused (spaceNumber key image p) p)
+
+-- ---- the report: the answers of the walk, counted by outcome
+abbrev pub none : ℕ → Tally
+none n = record { number = n; records = 0; marks = 0; ends = 0; bads = 0; strays = 0; cuts = 0 }
+
+abbrev pub counted : Told → Tally → Tally
+counted (Record b) t = record { number = t .number; records = t .records + 1; marks = t .marks; ends = t .ends; bads = t .bads; strays = t .strays; cuts = t .cuts }
+counted Mark t = record { number = t .number; records = t .records; marks = t .marks + 1; ends = t .ends; bads = t .bads; strays = t .strays; cuts = t .cuts }
+counted End t = record { number = t .number; records = t .records; marks = t .marks; ends = t .ends + 1; bads = t .bads; strays = t .strays; cuts = t .cuts }
+counted Bad t = record { number = t .number; records = t .records; marks = t .marks; ends = t .ends; bads = t .bads + 1; strays = t .strays; cuts = t .cuts }
+counted Stray t = record { number = t .number; records = t .records; marks = t .marks; ends = t .ends; bads = t .bads; strays = t .strays + 1; cuts = t .cuts }
+counted (Cut q) t = record { number = t .number; records = t .records; marks = t .marks; ends = t .ends; bads = t .bads; strays = t .strays; cuts = t .cuts + 1 }
+
+-- the answers of a list of visits, counted into t from the front
+unfoldable pub tallied : List Visit → Tally → Tally
+tallied [] t = t
+tallied (x ∷ xs) t = tallied xs (counted (x .says) t)
+
+unfoldable pub reportNumber : List ℕ → List ℕ → ℕ
+reportNumber key image = firstOf (imageOk image) 1 (firstOf (keyOk key) 2 0)
+
+unfoldable pub reportOf : List ℕ → ℕ → ℕ → List ℕ → Tally
+reportOf key id recording image =
+    pick (eqb (reportNumber key image) 0) (tallied (walk (view key id recording image) (capacityOf image)) (none 0)) (none (reportNumber key image))
