@@ -13,7 +13,7 @@ use lib.Seq.{take-take, getD-take, length-take-le}
 use Rattle.laws.specs.Choose.{pick}
 use Rattle.aead.specs.Sealing.{fits, opened, openNumber, openLeaves, Opened}
 use Rattle.aead.proofs.Lengths.{Sizes, Limits, sized-holds, limited-holds}
-use Rattle.aead.proofs.Accepted.{open-takes}
+use Rattle.aead.proofs.Calls.{open-takes}
 use Rattle.block.specs.declared.Seen.{Seen}
 use Rattle.block.specs.declared.Seen.the-variants as seen
 use Rattle.block.specs.Content.{Content, shut, bytesOf}

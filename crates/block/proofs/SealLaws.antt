@@ -12,7 +12,7 @@ use Rattle.laws.specs.Lists.{splice}
 use Rattle.laws.proofs.SpliceLaws.{splice-mid, splice-next, length-splice}
 use Rattle.aead.specs.Sealing.{sealed, Sealed}
 use Rattle.aead.proofs.Lengths.{sealed-length}
-use Rattle.aead.proofs.Accepted.{seal-takes}
+use Rattle.aead.proofs.Calls.{seal-takes}
 use Rattle.block.specs.Content.{Content, flag, kindOf, lastOf, bytesOf}
 use Rattle.block.specs.Format.{nonceAt, header, payload, blockOf, sealBlock}
 use Rattle.block.specs.Calls.{sealNumber, SealedAt}
