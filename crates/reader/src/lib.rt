@@ -57,3 +57,7 @@ pub struct Tally {
 //     ensures { λ r. ⌜ r ≡ spacing (now (key .entry)) id recording (now (image .entry)) p n ⌝ }
 // pub fn report(key: &[u8], id: u32, recording: u64, image: &[u8]) -> Tally
 //     ensures { λ r. ⌜ r ≡ reportOf (now (key .entry)) id recording (now (image .entry)) ⌝ }
+
+// ---- Reading into the lent buffer; parts of what is lent.
+
+// ---- Reading on without a buffer: spacing and the report.
