@@ -1,0 +1,2 @@
+-- What is true of reading.
+pub mod ImageTests
