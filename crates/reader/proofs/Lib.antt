@@ -1,2 +1,5 @@
 -- What is true of reading.
 pub mod ImageTests
+pub mod BufferLaws
+pub mod ViewLaws
+pub mod GatherLaws

@@ -1,33 +1,32 @@
+-- `reader::answer` meets its contract: zeros behind what is kept.
+-- Assumes nothing.
 use borrow.Author.Needs.{needs}
+use mathlib.Core.Path.{refl}
+use Prim.Native.Nat.{_-_}
+use native.Mathlib.Omega.{arith}
+use Rattle.reader.proofs.BufferLaws.{zeros-back}
 use Rattle.reader.proofs.answer.Statement.{statement}
 use Rattle.reader.proofs.answer.Tie as tie
-use Rattle.reader.proofs.answer.Reads as reads
-use Rattle.reader.proofs.answer.Lts as lts
-use Rattle.buffer.proofs.zero.Reads as zero-reads
 
--- src/lib.rt:86:18
 sub-zero : tie.Need-sub-zero
 sub-zero c = search needs
 
--- src/lib.rt:86:18
 part-zero-start : tie.Need-part-zero-start
 part-zero-start c = search needs
 
--- src/lib.rt:86:18
 part-zero-end : tie.Need-part-zero-end
 part-zero-end c = search needs
 
--- src/lib.rt:86:5
 zero-requires : tie.Need-zero-requires
 zero-requires c κs = search needs
 
--- src/lib.rt:81:1
 same-length : tie.Need-same-length
 same-length c = search needs
 
--- src/lib.rt:81:1
 returns : tie.Need-returns
-returns c = search needs
+returns c =
+    let s = c .before .before .before .before .before in
+    ((refl, refl), zeros-back (s .args .buffer .now) (s .args .kept) (31232 - s .args .kept) (omega arith) (c .before .before .zero .ensures))
 
 pub answer-spec : {M : Type 1} → statement M
 answer-spec =
