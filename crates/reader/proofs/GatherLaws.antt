@@ -3,7 +3,7 @@
 use mathlib.Core.Path.{_≡_, refl, sym, ap, ap₂, _∙_, subst}
 use mathlib.Core.Bool.{Bool, true, false}
 use mathlib.Core.List.{List, [], _++_, append-assoc, append-nil}
-use Prim.Native.Nat.{ℕ, zero, suc, _+_, _-_, _*_, _≤_, _<_, min}
+use Prim.Native.Nat.{ℕ, zero, suc, _+_, _-_, _*_, _/_, _≤_, _<_, min}
 use native.Mathlib.Numerals.{add-one}
 use native.Mathlib.Omega.{arith}
 use lib.ListN.{length, take, drop, replicate, length-append, length-replicate}
@@ -14,7 +14,7 @@ use Rattle.block.specs.declared.Seen.{Seen}
 use Rattle.block.specs.declared.Seen.the-variants as seen
 use Rattle.block.specs.Content.{Content, shut, more, head, first, mark, eod, bytesOf}
 use Rattle.block.specs.Format.{payload}
-use Rattle.block.specs.Image.{View}
+use Rattle.block.specs.Image.{View, capacityOf}
 use Rattle.block.specs.Calls.{seenOf}
 use Rattle.block.proofs.PayloadLaws.{payload-length, payload-is}
 use Rattle.reader.specs.declared.Outcome.{Outcome}
@@ -69,7 +69,7 @@ pub filled-least : (t : Told) → 31232 ≤ length (filled t)
 unfolding filled
 filled-least t = omega (arith, length-append (recordOf t) (replicate (31232 - length (recordOf t)) 0), length-replicate {A = ℕ} (31232 - length (recordOf t)) 0)
 
-module _ {a : Answer} {r : Got} {b₀ b b′ : List ℕ} (f : drop 31232 b ≡ drop 31232 b₀) where
+module _ {a : Answer} {r : Got} (b₀ b : List ℕ) {b′ : List ℕ} (f : drop 31232 b ≡ drop 31232 b₀) where
   -- none of the buffer is kept
   pub nothing-kept : (t : Told) (n : ℕ) → a ≡ answer t n → recordOf t ≡ [] → r .outcome ≡ outcomeOf t → r .next ≡ n → b′ ≡ splice b 0 (replicate (31232 - 0) 0)
       → (r ≡ gotOf a) × (b′ ≡ splice b₀ 0 (filled (a .told)))
@@ -115,7 +115,7 @@ pub record Turn (v : View) (end q at : ℕ) (a : Answer) (b₀ b b₁ : List ℕ
   pub leaves : b₁ ≡ splice b at (payload (bytesOf (v q)))
 
 module _ {v : View} {end q at : ℕ} {a : Answer} {b₀ b b₁ : List ℕ} {s : Seen} (t : Turn v end q at a b₀ b b₁ s) where
-  x : List ℕ
+  abbrev x : List ℕ
   x = bytesOf (v q)
 
   pub turn-back : drop 31232 b₁ ≡ drop 31232 b₀
@@ -137,16 +137,16 @@ module _ {v : View} {end q at : ℕ} {a : Answer} {b₀ b b₁ : List ℕ} {s : 
 
   module _ {r : Got} {b′ : List ℕ} (l : b′ ≡ splice b₁ 0 (replicate (31232 - 0) 0)) (y : r .outcome ≡ o.Cut q) where
     pub turn-shut : s ≡ seen.Shut → r .next ≡ q + 1 → (r ≡ gotOf a) × (b′ ≡ splice b₀ 0 (filled (a .told)))
-    turn-shut e z = nothing-kept turn-back (Cut q) (q + 1) (turns shut (shut-seen (v q) (sym (t .says) ∙ e)) ∙ ap (answer (Cut q)) (sym (add-one q))) refl y z l
+    turn-shut e z = nothing-kept b₀ b₁ turn-back (Cut q) (q + 1) (turns shut (shut-seen (v q) (sym (t .says) ∙ e)) ∙ ap (answer (Cut q)) (sym (add-one q))) refl y z l
 
     pub turn-first : {f : Bool} {n : ℕ} → s ≡ seen.First f n → r .next ≡ q → (r ≡ gotOf a) × (b′ ≡ splice b₀ 0 (filled (a .told)))
-    turn-first {f} e z = nothing-kept turn-back (Cut q) q (turns (head (first f x)) (first-seen (v q) (sym (t .says) ∙ e) .0)) refl y z l
+    turn-first {f} e z = nothing-kept b₀ b₁ turn-back (Cut q) q (turns (head (first f x)) (first-seen (v q) (sym (t .says) ∙ e) .0)) refl y z l
 
     pub turn-mark : s ≡ seen.Mark → r .next ≡ q → (r ≡ gotOf a) × (b′ ≡ splice b₀ 0 (filled (a .told)))
-    turn-mark e z = nothing-kept turn-back (Cut q) q (turns (head mark) (mark-seen (v q) (sym (t .says) ∙ e))) refl y z l
+    turn-mark e z = nothing-kept b₀ b₁ turn-back (Cut q) q (turns (head mark) (mark-seen (v q) (sym (t .says) ∙ e))) refl y z l
 
     pub turn-end : s ≡ seen.End → r .next ≡ q → (r ≡ gotOf a) × (b′ ≡ splice b₀ 0 (filled (a .told)))
-    turn-end e z = nothing-kept turn-back (Cut q) q (turns (head eod) (end-seen (v q) (sym (t .says) ∙ e))) refl y z l
+    turn-end e z = nothing-kept b₀ b₁ turn-back (Cut q) q (turns (head eod) (end-seen (v q) (sym (t .says) ∙ e))) refl y z l
 
   -- the record's last block
   sized-as : {c d : Content} → c ≡ d → Sized c → Sized d
@@ -167,7 +167,7 @@ module _ {v : View} {end q at : ℕ} {a : Answer} {b₀ b b₁ : List ℕ} {s : 
       let w : length (take at b) ≡ at = length-take-le at b (omega arith) in
       let u : length (take at b ++ x) ≡ at + n = length-append (take at b) x ∙ omega (arith, m .1) in
       let i : 488 - length x ≡ at + 488 - length (take at b ++ x) = omega (arith, m .1) in
-      record-kept turn-back (take at b ++ x) (q + 1) (at + 488) (turns (more true x) (m .0) ∙ ap (answer (Record (take at b ++ x))) (sym (add-one q))) (y ∙ ap o.Record (sym u)) z (omega arith) h
+      record-kept b₀ b₁ turn-back (take at b ++ x) (q + 1) (at + 488) (turns (more true x) (m .0) ∙ ap (answer (Record (take at b ++ x))) (sym (add-one q))) (y ∙ ap o.Record (sym u)) z (omega arith) h
       (turn-front ∙ ap (λ (j : List ℕ). take at b ++ j) (payload-is x k ∙ ap (λ (j : ℕ). x ++ replicate j 0) i) ∙ sym (append-assoc (take at b) x (replicate (at + 488 - length (take at b ++ x)) 0))) l
 
   -- a block after which the record goes on
@@ -185,7 +185,7 @@ pub record Begun (v : View) (p : ℕ) (b₀ b₁ : List ℕ) (s : Seen) : Type 0
   pub leaves : b₁ ≡ splice b₀ 0 (payload (bytesOf (v p)))
 
 module _ {v : View} (c : ℕ) {p : ℕ} {b₀ b₁ : List ℕ} {s : Seen} (t : Begun v p b₀ b₁ s) where
-  f : List ℕ
+  abbrev f : List ℕ
   f = bytesOf (v p)
 
   begun-back : drop 31232 b₁ ≡ drop 31232 b₀
@@ -200,16 +200,16 @@ module _ {v : View} (c : ℕ) {p : ℕ} {b₀ b₁ : List ℕ} {s : Seen} (t : B
 
   module _ {r : Got} {b′ : List ℕ} (l : b′ ≡ splice b₁ 0 (replicate (31232 - 0) 0)) where
     pub begun-shut : s ≡ seen.Shut → r .outcome ≡ o.Bad → r .next ≡ p + 1 → (r ≡ gotOf (readAt v c p)) × (b′ ≡ splice b₀ 0 (filled (readAt v c p .told)))
-    begun-shut e y z = nothing-kept begun-back Bad (p + 1) (begins-as shut (shut-seen (v p) (sym (t .says) ∙ e)) ∙ ap (answer Bad) (sym (add-one p))) refl y z l
+    begun-shut e y z = nothing-kept b₀ b₁ begun-back Bad (p + 1) (begins-as shut (shut-seen (v p) (sym (t .says) ∙ e)) ∙ ap (answer Bad) (sym (add-one p))) refl y z l
 
     pub begun-more : {m : Bool} {n : ℕ} → s ≡ seen.More m n → r .outcome ≡ o.Stray → r .next ≡ p + 1 → (r ≡ gotOf (readAt v c p)) × (b′ ≡ splice b₀ 0 (filled (readAt v c p .told)))
-    begun-more {m} e y z = nothing-kept begun-back Stray (p + 1) (begins-as (more m f) (more-seen (v p) (sym (t .says) ∙ e) .0) ∙ ap (answer Stray) (sym (add-one p))) refl y z l
+    begun-more {m} e y z = nothing-kept b₀ b₁ begun-back Stray (p + 1) (begins-as (more m f) (more-seen (v p) (sym (t .says) ∙ e) .0) ∙ ap (answer Stray) (sym (add-one p))) refl y z l
 
     pub begun-mark : s ≡ seen.Mark → r .outcome ≡ o.Mark → r .next ≡ p + 1 → (r ≡ gotOf (readAt v c p)) × (b′ ≡ splice b₀ 0 (filled (readAt v c p .told)))
-    begun-mark e y z = nothing-kept begun-back Mark (p + 1) (begins-as (head mark) (mark-seen (v p) (sym (t .says) ∙ e)) ∙ ap (answer Mark) (sym (add-one p))) refl y z l
+    begun-mark e y z = nothing-kept b₀ b₁ begun-back Mark (p + 1) (begins-as (head mark) (mark-seen (v p) (sym (t .says) ∙ e)) ∙ ap (answer Mark) (sym (add-one p))) refl y z l
 
     pub begun-end : s ≡ seen.End → r .outcome ≡ o.End → r .next ≡ p → (r ≡ gotOf (readAt v c p)) × (b′ ≡ splice b₀ 0 (filled (readAt v c p .told)))
-    begun-end e y z = nothing-kept begun-back End p (begins-as (head eod) (end-seen (v p) (sym (t .says) ∙ e))) refl y z l
+    begun-end e y z = nothing-kept b₀ b₁ begun-back End p (begins-as (head eod) (end-seen (v p) (sym (t .says) ∙ e))) refl y z l
 
   -- a record of one block
   pub begun-last : {n : ℕ} {r : Got} {b′ : List ℕ} → s ≡ seen.First true n → r .outcome ≡ o.Record n → r .next ≡ p + 1 → b′ ≡ splice b₁ 488 (replicate (31232 - 488) 0)
@@ -217,7 +217,7 @@ module _ {v : View} (c : ℕ) {p : ℕ} {b₀ b₁ : List ℕ} {s : Seen} (t : B
   begun-last e y z l =
       let m = first-seen (v p) (sym (t .says) ∙ e) in
       let k : length f ≤ 488 = subst Sized (m .0) (t .sized) in
-      record-kept begun-back f (p + 1) 488 (begins-as (head (first true f)) (m .0) ∙ ap (answer (Record f)) (sym (add-one p))) (y ∙ ap o.Record (sym (m .1))) z k (omega arith)
+      record-kept b₀ b₁ begun-back f (p + 1) 488 (begins-as (head (first true f)) (m .0) ∙ ap (answer (Record f)) (sym (add-one p))) (y ∙ ap o.Record (sym (m .1))) z k (omega arith)
       (begun-front ∙ payload-is f k) l
 
   -- a longer one
@@ -233,3 +233,12 @@ module _ {v : View} (c : ℕ) {p : ℕ} {b₀ b₁ : List ℕ} {s : Seen} (t : B
         l ∙ ap₂ (λ (u : List ℕ) (g : Answer). splice u 0 (filled (g .told))) (t .leaves) w
         ∙ splice-over b₀ (payload f) (filled (readAt v c p .told)) (omega (arith, filled-least (readAt v c p .told))),
       )
+
+-- the end that the loop runs to
+pub rest-room : (image : List ℕ) (p end : ℕ) (v : View) (b : List ℕ) → end ≡ min (length image / 512) (p + 64) → p < length image / 512
+    → gather (end - (p + 1)) v (p + 1) (take ((p + 1 - p) * 488) b) ≡ gather (min (capacityOf image - (p + 1)) 63) v (p + 1) (take 488 b)
+unfolding capacityOf
+rest-room image p end v b e h =
+    let k : end - (p + 1) ≡ min (length image / 512 - (p + 1)) 63 = omega arith in
+    let m : (p + 1 - p) * 488 ≡ 488 = omega arith in
+    ap₂ (λ (n i : ℕ). gather n v (p + 1) (take i b)) k m
