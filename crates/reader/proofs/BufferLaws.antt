@@ -61,21 +61,22 @@ pub splice-over : (l x y : List ℕ) → length x ≤ length y → splice (splic
 splice-over l x y h =
     front-is (splice l 0 x) y ∙ ap (λ (t : List ℕ). y ++ t) (drop-splice l 0 x (0 + length y) (omega arith) (omega arith)) ∙ sym (front-is l y)
 
+-- r and zeros, and zeros behind them
+zeros-behind : (r t : List ℕ) (i j n : ℕ) → i + j ≡ n → (r ++ replicate i 0) ++ (replicate j 0 ++ t) ≡ (r ++ replicate n 0) ++ t
+zeros-behind r t i j n e =
+    append-assoc r (replicate i 0) (replicate j 0 ++ t)
+    ∙ ap (λ (u : List ℕ). r ++ u) (sym (append-assoc (replicate i 0) (replicate j 0) t))
+    ∙ sym (append-assoc r (replicate i 0 ++ replicate j 0) t)
+    ∙ ap (λ (u : List ℕ). (r ++ u) ++ t) (zeros-join i j ∙ ap (λ (k : ℕ). replicate k 0) e)
+
 -- zeros behind the first k bytes of b, which are r and zeros: r fills the front of b₀, zeros are behind it up to n
 pub cleared : (n : ℕ) (b₀ b r : List ℕ) (k : ℕ) → length r ≤ k → k ≤ n → take k b ≡ r ++ replicate (k - length r) 0 → drop n b ≡ drop n b₀
     → splice b k (replicate (n - k) 0) ≡ splice b₀ 0 (r ++ replicate (n - length r) 0)
 unfolding splice
 cleared n b₀ b r k h m e f =
-    let z₁ = length-replicate {A = ℕ} (n - k) 0 in
-    let z₂ = length-replicate {A = ℕ} (n - length r) 0 in
-    let i : k + length (replicate {A = ℕ} (n - k) 0) ≡ n = omega arith in
-    let j : 0 + length (r ++ replicate (n - length r) 0) ≡ n = omega (arith, length-append r (replicate (n - length r) 0)) in
-    let s : (k - length r) + (n - k) ≡ n - length r = omega arith in
-    rw (e, i, f, j)
-    (append-assoc r (replicate (k - length r) 0) (replicate (n - k) 0 ++ drop n b₀)
-    ∙ ap (λ (t : List ℕ). r ++ t) (sym (append-assoc (replicate (k - length r) 0) (replicate (n - k) 0) (drop n b₀)))
-    ∙ sym (append-assoc r (replicate (k - length r) 0 ++ replicate (n - k) 0) (drop n b₀))
-    ∙ ap (λ (t : List ℕ). (r ++ t) ++ drop n b₀) (zeros-join (k - length r) (n - k) ∙ ap (λ (i : ℕ). replicate i 0) s))
+    let i : k + length (replicate {A = ℕ} (n - k) 0) ≡ n = omega (arith, length-replicate {A = ℕ} (n - k) 0) in
+    let j : 0 + length (r ++ replicate (n - length r) 0) ≡ n = omega (arith, length-append r (replicate (n - length r) 0), length-replicate {A = ℕ} (n - length r) 0) in
+    rw (e, i, f, j) (zeros-behind r (drop n b₀) (k - length r) (n - k) (n - length r) (omega arith))
 
 -- ---- a block opened into its place
 may-open : (key part out : List ℕ) → length key ≡ 24 → 512 ≤ length part → length out ≡ 488 → openable key part out ≡ true

@@ -3,3 +3,4 @@ pub mod ImageTests
 pub mod BufferLaws
 pub mod ViewLaws
 pub mod GatherLaws
+pub mod UniqueRead
