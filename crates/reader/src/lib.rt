@@ -98,26 +98,19 @@ fn read_rest(key: &[u8], id: u32, recording: u64, image: &[u8], p: usize, buffer
     let mut q = p + 1;
     while q < end {
         let at = (q - p) * 488;
+        let after = q + 1;
         match open_at(key, id, recording, image, q, buffer, at) {
-            block::Seen::Shut => {
-                return answer(buffer, 0, Outcome::Cut(q), q + 1);
-            }
-            block::Seen::First(_, _) => {
-                return answer(buffer, 0, Outcome::Cut(q), q);
-            }
+            block::Seen::Shut => return answer(buffer, 0, Outcome::Cut(q), after),
+            block::Seen::First(_, _) => return answer(buffer, 0, Outcome::Cut(q), q),
             block::Seen::More(last, used) => {
                 if last {
-                    return answer(buffer, at + 488, Outcome::Record(at + used), q + 1);
+                    return answer(buffer, at + 488, Outcome::Record(at + used), after);
                 }
             }
-            block::Seen::Mark => {
-                return answer(buffer, 0, Outcome::Cut(q), q);
-            }
-            block::Seen::End => {
-                return answer(buffer, 0, Outcome::Cut(q), q);
-            }
+            block::Seen::Mark => return answer(buffer, 0, Outcome::Cut(q), q),
+            block::Seen::End => return answer(buffer, 0, Outcome::Cut(q), q),
         }
-        q += 1;
+        q = after;
     }
     answer(buffer, 0, Outcome::Cut(q), q)
 }
@@ -167,11 +160,10 @@ pub fn record_part(buffer: &[u8], length: usize) -> &[u8]
 pub fn look_number(image: &[u8], p: usize) -> u8
     ensures { λ r. ⌜ r ≡ lookNumber (now (image .entry)) p ⌝ }
 {
-    let size = image.len();
-    if !block::is_image(size) {
+    if !block::is_image(image.len()) {
         return 1;
     }
-    if p < size / 512 { 0 } else { 8 }
+    if p < image.len() / 512 { 0 } else { 8 }
 }
 
 // The 512 bytes of block p as a part of the image; refused, the empty part at its front.

@@ -49,6 +49,9 @@ sub-at c = omega arith
 mul-at : tie.Need-mul-at Inv-loop μ-loop
 mul-at c = omega arith
 
+add-after : tie.Need-add-after Inv-loop μ-loop
+add-after c = omega arith
+
 open-at-requires : tie.Need-open-at-requires Inv-loop μ-loop
 open-at-requires c κs = let s = c .before .before .before .before .before .before .before in (s .pre .0, omega arith, omega arith, omega arith)
 
@@ -75,9 +78,6 @@ turn c =
 
 enum-told : tie.Need-enum-told Inv-loop μ-loop
 enum-told c = search needs
-
-add-answer : tie.Need-add-answer Inv-loop μ-loop
-add-answer c = omega arith
 
 answer-requires : tie.Need-answer-requires Inv-loop μ-loop
 answer-requires c κs = (omega arith, omega arith)
@@ -107,14 +107,11 @@ returns-2 c =
 enum-known-last : tie.Need-enum-known-last Inv-loop μ-loop
 enum-known-last c = search needs
 
-add-answer-2 : tie.Need-add-answer-2 Inv-loop μ-loop
-add-answer-2 c = omega arith
+add-answer : tie.Need-add-answer Inv-loop μ-loop
+add-answer c = omega arith
 
 add-t32 : tie.Need-add-t32 Inv-loop μ-loop
 add-t32 c = let h = turn-used (turn (c .before .before .before .before .before .before .before)) (c .before .before .before .last .given .1) in omega arith
-
-add-answer-3 : tie.Need-add-answer-3 Inv-loop μ-loop
-add-answer-3 c = omega arith
 
 answer-requires-3 : tie.Need-answer-requires-3 Inv-loop μ-loop
 answer-requires-3 c κs = (omega arith, omega arith)
@@ -155,9 +152,6 @@ returns-5 : tie.Need-returns-5 Inv-loop μ-loop
 returns-5 c =
     let n = c .before .before .answer5 in
     turn-end (turn (c .before .before .before .before .before .before .before .before)) (n .ensures .1) (n .ensures .0 .0) (c .before .before .before .before .enum-told4 .given .1) (n .ensures .0 .1)
-
-add-q-2 : tie.Need-add-q-2 Inv-loop μ-loop
-add-q-2 c = omega arith
 
 loop-less : tie.Need-loop-less Inv-loop μ-loop
 loop-less c = omega arith
@@ -204,9 +198,9 @@ read-rest-spec =
     loop-holds
     sub-at
     mul-at
+    add-after
     open-at-requires
     enum-told
-    add-answer
     answer-requires
     same-length
     returns
@@ -215,9 +209,8 @@ read-rest-spec =
     same-length-2
     returns-2
     enum-known-last
-    add-answer-2
+    add-answer
     add-t32
-    add-answer-3
     answer-requires-3
     same-length-3
     returns-3
@@ -229,7 +222,6 @@ read-rest-spec =
     answer-requires-5
     same-length-5
     returns-5
-    add-q-2
     loop-less
     loop-again
     answer-requires-6

@@ -3,13 +3,14 @@
 use borrow.Author.Needs.{needs}
 use borrow.Author.Tests.{le-leb, lt-leb}
 use mathlib.Core.Path.{refl, sym}
+use native.Mathlib.Omega.{arith}
 use lib.Seq.{length-take-le}
 use Rattle.reader.specs.Reading.{partOf}
 use Rattle.reader.proofs.record_part.Statement.{statement}
 use Rattle.reader.proofs.record_part.Tie as tie
 
 slice-aggregate-result : tie.Need-slice-aggregate-result
-slice-aggregate-result c = sym (length-take-le _ (c .before .before .args .buffer .now) (c .before .if1 .taken))
+slice-aggregate-result c = sym (length-take-le _ (c .before .before .args .buffer .now) (omega arith))
 
 slice-aggregate-result-2 : tie.Need-slice-aggregate-result-2
 slice-aggregate-result-2 c = search needs
