@@ -1,15 +1,14 @@
 -- The lent buffer: a block opened into it, and zeros behind what is kept.
 -- Assumes nothing.
 use borrow.Author.Tests.{eq-eqb, le-leb}
-use mathlib.Core.Path.{_≡_, refl, sym, ap, ap₂, _∙_}
+use mathlib.Core.Path.{_≡_, refl, sym, ap, _∙_}
 use mathlib.Core.Bool.{true}
-use mathlib.Core.List.{List, [], _∷_, _++_, append-assoc}
+use mathlib.Core.List.{List, _∷_, _++_, append-assoc}
 use Prim.Native.Nat.{ℕ, zero, suc, _+_, _-_, _*_, _≤_}
 use native.Mathlib.Nat.{zero-add, suc-add}
 use native.Mathlib.Omega.{arith}
 use lib.ListN.{length, take, drop, replicate, length-append, length-take, length-drop, length-replicate}
 use lib.Seq.{take-at, take-take, drop-append-add, drop-drop, length-take-le}
-use Rattle.laws.specs.Choose.{pick}
 use Rattle.laws.specs.Lists.{splice}
 use Rattle.laws.proofs.SpliceLaws.{splice-mid}
 use Rattle.block.specs.declared.Seen.{Seen}

@@ -8,7 +8,7 @@ use Prim.Native.Nat.{ℕ, _+_, _*_, _/_, _%_, _≤_, _<_}
 use native.Mathlib.Omega.{arith}
 use lib.Dec.{eqb, leb, ltb}
 use lib.ListN.{length}
-use Rattle.laws.proofs.ChooseLaws.{no-refusal, both-left, both-right}
+use Rattle.laws.proofs.ChooseLaws.{no-refusal, both-right}
 use Rattle.block.specs.Image.{sizeOk, imageOk, capacityOf}
 use Rattle.laws.specs.Lists.{splice}
 use Rattle.reader.specs.declared.Outcome.the-variants as o

@@ -3,14 +3,14 @@
 use borrow.Author.Tests.{eqb-true, leb-true}
 use mathlib.Core.Path.{_≡_, refl, _∙_}
 use mathlib.Core.Bool.{Bool, true, false, _&&_}
-use mathlib.Core.List.{List, []}
+use mathlib.Core.List.{List}
 use Prim.Native.Nat.{ℕ, _+_, _-_, _*_, _≤_}
 use native.Mathlib.Omega.{arith}
 use lib.Dec.{eqb, leb}
 use lib.ListN.{length, getD, take, drop, length-drop}
 use lib.Seq.{length-take-le}
 use Rattle.laws.specs.Choose.{pick}
-use Rattle.laws.proofs.ChooseLaws.{both-left, both-right}
+use Rattle.laws.proofs.ChooseLaws.{both-right}
 use Rattle.sponge.specs.Blink.{dec}
 use Rattle.sponge.proofs.Lengths.{out-length}
 use Rattle.aead.specs.Sealing.{keyed, cipherOf, openedFrom, opened, fits}

@@ -1,12 +1,9 @@
 -- `reader::read` meets its contract: refused with the buffer as it was, or read.
 -- Assumes nothing.
 use borrow.Author.Needs.{needs}
-use borrow.Author.Tests.{eq-eqb, ne-eqb}
-use mathlib.Core.Path.{sym, ap, _∙_}
-use Prim.Native.Nat.{ℕ}
+use mathlib.Core.Path.{sym, _∙_}
 use lib.ListN.{length}
-use Rattle.reader.specs.declared.Outcome.the-variants as o
-use Rattle.reader.proofs.ImageTests.{Readable, readable, read-refused, read-done}
+use Rattle.reader.proofs.ImageTests.{readable, read-refused, read-done}
 use Rattle.reader.proofs.read.Statement.{statement}
 use Rattle.reader.proofs.read.Tie as tie
 
