@@ -228,10 +228,10 @@ module _ {v : View} (c : ℕ) {p : ℕ} {b₀ b₁ : List ℕ} {s : Seen} (t : B
       let k : length f ≡ 488 = subst Sized (m .0) (t .sized) in
       let n = payload-length f in
       let w : gather (min (c - (p + 1)) 63) v (p + 1) (take 488 b₁) ≡ readAt v c p =
-          ap (gather (min (c - (p + 1)) 63) v (p + 1)) (begun-front ∙ payload-whole f k) ∙ ap (λ (i : ℕ). gather (min (c - i) 63) v i f) (add-one p) ∙ sym (begins-as (head (first false f)) (m .0)) in (
+      ap (gather (min (c - (p + 1)) 63) v (p + 1)) (begun-front ∙ payload-whole f k) ∙ ap (λ (i : ℕ). gather (min (c - i) 63) v i f) (add-one p) ∙ sym (begins-as (head (first false f)) (m .0)) in (
         y ∙ ap gotOf w,
         l ∙ ap₂ (λ (u : List ℕ) (g : Answer). splice u 0 (filled (g .told))) (t .leaves) w
-        ∙ splice-over b₀ (payload f) (filled (readAt v c p .told)) (omega (arith, filled-least (readAt v c p .told))),
+            ∙ splice-over b₀ (payload f) (filled (readAt v c p .told)) (omega (arith, filled-least (readAt v c p .told))),
       )
 
 -- the end that the loop runs to

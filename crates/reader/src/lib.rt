@@ -68,13 +68,28 @@ fn read_number(key: &[u8], image: &[u8], p: usize, room: usize) -> u8
 }
 
 // Opens block q straight into its place, the 488 bytes of `buffer` from `at` on.
-fn open_at(key: &[u8], id: u32, recording: u64, image: &[u8], q: usize, buffer: &mut [u8], at: usize) -> block::Seen
+fn open_at(
+    key: &[u8],
+    id: u32,
+    recording: u64,
+    image: &[u8],
+    q: usize,
+    buffer: &mut [u8],
+    at: usize,
+) -> block::Seen
     requires { ⌜ (length (now key) ≡ 24) × (q * 512 + 512 ≤ length (now image)) × (q < 128) × (at + 488 ≤ length (now buffer)) ⌝ }
     ensures says { λ r. ⌜ r ≡ seenOf (view (now (key .entry)) id recording (now (image .entry)) q) ⌝ }
     ensures leaves { λ _. ⌜ now (buffer .exit) ≡ splice (now (buffer .entry)) at (payload (bytesOf (view (now (key .entry)) id recording (now (image .entry)) q))) ⌝ }
 {
     let start = 512 * q;
-    block::open_block(key, id, recording, q as u32, &image[start..], &mut buffer[at..at + 488])
+    block::open_block(
+        key,
+        id,
+        recording,
+        q as u32,
+        &image[start..],
+        &mut buffer[at..at + 488],
+    )
 }
 
 // An answer that leaves the first `kept` bytes of `buffer`, and zeros behind them up to 31,232.
@@ -143,7 +158,10 @@ pub fn read(key: &[u8], id: u32, recording: u64, image: &[u8], p: usize, buffer:
 {
     let number = read_number(key, image, p, buffer.len());
     if number != 0 {
-        return Got { outcome: Outcome::Refused(number), next: p };
+        return Got {
+            outcome: Outcome::Refused(number),
+            next: p,
+        };
     }
     read_lent(key, id, recording, image, p, buffer)
 }
@@ -153,7 +171,11 @@ pub fn record_part(buffer: &[u8], length: usize) -> &[u8]
     ensures bytes { λ r. ⌜ now r ≡ partOf (now (buffer .entry)) length ⌝ }
     ensures place { λ r. ⌜ r .ptr ≡ buffer .entry .ptr ⌝ }
 {
-    if length <= buffer.len() { &buffer[..length] } else { &buffer[..0] }
+    if length <= buffer.len() {
+        &buffer[..length]
+    } else {
+        &buffer[..0]
+    }
 }
 
 // The number of a raw look at block p: 1 the image, 8 the position.

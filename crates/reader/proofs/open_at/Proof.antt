@@ -46,9 +46,10 @@ returns c =
     let s = c .before .before .before .before .before .before .before .before in
     let a = s .args in
     let n = a .at + 488 - a .at in
-    let h : n ≡ 488 = omega arith in
-    (opened-says (a .key .now) (a .id) (a .recording) (a .image .now) (a .q) (a .buffer .now) (a .at) n (s .pre .0) (s .pre .1) (s .pre .3) h refl refl (c .before .before .open-block .ensures),
-    opened-leaves (a .key .now) (a .id) (a .recording) (a .image .now) (a .q) (a .buffer .now) (a .at) n (s .pre .0) (s .pre .1) (s .pre .3) h refl refl (c .before .before .open-block .ensures))
+    let h : n ≡ 488 = omega arith in (
+      opened-says (a .key .now) (a .id) (a .recording) (a .image .now) (a .q) (a .buffer .now) (a .at) n (s .pre .0) (s .pre .1) (s .pre .3) h refl refl (c .before .before .open-block .ensures),
+      opened-leaves (a .key .now) (a .id) (a .recording) (a .image .now) (a .q) (a .buffer .now) (a .at) n (s .pre .0) (s .pre .1) (s .pre .3) h refl refl (c .before .before .open-block .ensures),
+    )
 
 pub open-at-spec : {M : Type 1} → statement M
 open-at-spec =
