@@ -1,0 +1,61 @@
+-- What the tests before a read and a look say, where they refuse nothing.
+-- Assumes nothing.
+use borrow.Author.Tests.{eq-eqb, ne-eqb, eqb-true, leb-true, ltb-true}
+use mathlib.Core.Path.{_≡_, ap, _∙_}
+use mathlib.Core.Bool.{true}
+use mathlib.Core.List.{List}
+use Prim.Native.Nat.{ℕ, _+_, _*_, _/_, _%_, _≤_, _<_}
+use native.Mathlib.Omega.{arith}
+use lib.Dec.{eqb, leb, ltb}
+use lib.ListN.{length}
+use Rattle.laws.proofs.ChooseLaws.{no-refusal, both-right}
+use Rattle.block.specs.Image.{sizeOk, imageOk, capacityOf}
+use Rattle.laws.specs.Lists.{splice}
+use Rattle.reader.specs.declared.Outcome.the-variants as o
+use Rattle.reader.specs.declared.Got.{Got}
+use Rattle.reader.specs.Reading.{keyOk, readNumber, readAnswer, gotOf, filled, Read, lookNumber}
+
+pub image-most : (image : List ℕ) → imageOk image ≡ true → length image ≤ 65536
+unfolding imageOk sizeOk
+image-most image e =
+    let n = length image in
+    leb-true n 65536 (both-right (leb 2048 n) (leb n 65536) (both-right (eqb (n % 512) 0) _ e))
+
+-- a read that is not refused
+pub record Readable (key image : List ℕ) (p room : ℕ) : Type 0 where
+  pub key24 : length key ≡ 24
+  pub inside : p < length image / 512
+  pub most : length image ≤ 65536
+  pub enough : 31232 ≤ room
+
+pub readable : (key image : List ℕ) (p room : ℕ) → readNumber key image p room ≡ 0 → Readable key image p room
+unfolding readNumber keyOk capacityOf
+readable key image p room e =
+    let a = no-refusal (imageOk image) 0 _ e in
+    let b = no-refusal (eqb (length key) 24) 1 _ (a .1) in
+    let d = no-refusal (leb 31232 room) 1 _ (b .1) in
+    let f = no-refusal (ltb p (length image / 512)) 7 0 (d .1) in
+    record { key24 = eqb-true _ _ (b .0); inside = ltb-true _ _ (f .0); most = image-most image (a .0); enough = leb-true _ _ (d .0) }
+
+-- ---- the call's answers
+module _ {key : List ℕ} {id recording : ℕ} {image : List ℕ} {p : ℕ} {b : List ℕ} where
+  pub read-refused : {n : ℕ} → n ≡ readNumber key image p (length b) → (n ≡ 0 → ⊥) → Read key id recording image p b (record { outcome = o.Refused n; next = p }) b
+  read-refused e h =
+      let z = ne-eqb (readNumber key image p (length b)) 0 (λ x. h (e ∙ x)) in
+      record { says = rw z (ap (λ (k : ℕ). record { outcome = o.Refused k; next = p }) e); leaves = rw z }
+
+  pub read-done : {r : Got} {b′ : List ℕ} → readNumber key image p (length b) ≡ 0 → r ≡ gotOf (readAnswer key id recording image p)
+      → b′ ≡ splice b 0 (filled (readAnswer key id recording image p .told)) → Read key id recording image p b r b′
+  read-done z e f =
+      let t = eq-eqb (readNumber key image p (length b)) 0 z in
+      record { says = e ∙ rw t; leaves = f ∙ rw t }
+
+-- ---- the raw look
+-- where a raw look is not refused, its block lies in the image
+pub look-in : (image : List ℕ) (p : ℕ) → lookNumber image p ≡ 0 → (512 * p + 512 ≤ length image) × (length image ≤ 65536)
+unfolding lookNumber capacityOf
+look-in image p e =
+    let a = no-refusal (imageOk image) 0 _ e in
+    let f = no-refusal (ltb p (length image / 512)) 7 0 (a .1) in
+    let h = ltb-true p (length image / 512) (f .0) in
+    (omega arith, image-most image (a .0))
