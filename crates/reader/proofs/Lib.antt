@@ -1,0 +1,4 @@
+-- What is true of reading.
+pub mod WalkLaws
+pub mod SpaceLaws
+pub mod CountLaws
