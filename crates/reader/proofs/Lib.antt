@@ -1,4 +1,5 @@
 -- What is true of reading.
+pub mod SizeLaws
 pub mod WalkLaws
 pub mod SpaceLaws
 pub mod CountLaws

@@ -77,7 +77,8 @@ space-on-space-on-requires t c κs =
     let n = ap (λ (x : Got). x .next) (r .answer-at .ensures) in
     let g = k .passes in
     let w = k .stays in
-    omega arith
+    let h = i .before .before .before .pre .1 in
+    (omega arith, (h .0, (omega arith, (h .1 .1 .0, (omega arith, omega arith)))))
 
 space-on-space-on-requires-2 : (t : ℕ) → space-on-lts.Need-space-on-requires-2 (callees t) (space-on-at t) space-on.Post
 space-on-space-on-requires-2 t c κs =
@@ -90,7 +91,8 @@ space-on-space-on-requires-2 t c κs =
     let n = ap (λ (x : Got). x .next) (r .answer-at .ensures) in
     let g = k .passes in
     let w = k .stays in
-    omega arith
+    let h = i .before .before .before .pre .1 in
+    (omega arith, (h .0, (omega arith, (h .1 .1 .0, (omega arith, omega arith)))))
 
 space-on-returns-4 : (t : ℕ) → space-on-lts.Need-returns-4 (callees t) (space-on-at t) space-on.Post
 space-on-returns-4 t c =
