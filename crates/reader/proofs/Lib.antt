@@ -3,3 +3,5 @@ pub mod SizeLaws
 pub mod WalkLaws
 pub mod SpaceLaws
 pub mod CountLaws
+pub mod SpaceWalk
+pub mod UniqueWalk

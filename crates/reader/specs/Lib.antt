@@ -2,3 +2,4 @@
 pub mod Walk
 pub mod Reading
 pub mod Counting
+pub mod Marks
