@@ -4,4 +4,5 @@ pub mod WalkLaws
 pub mod SpaceLaws
 pub mod CountLaws
 pub mod SpaceWalk
+pub mod ReportLaws
 pub mod UniqueWalk
