@@ -10,7 +10,7 @@ use Rattle.reader.specs.Walk.{walk}
 use Rattle.reader.specs.Reading.{keyOk, reportNumber, reportOf}
 use Rattle.reader.specs.Counting.{countOn}
 use Rattle.reader.proofs.SizeLaws.{size-blocks}
-use Rattle.reader.proofs.CountLaws.{few-none}
+use Rattle.reader.proofs.CountLaws.{few-up, few-none}
 use Rattle.reader.proofs.report.Statement.{statement}
 use Rattle.reader.proofs.report.Tie as tie
 use Rattle.reader.proofs.report.Reads as reads
@@ -33,7 +33,7 @@ between-requires : tie.Need-between-requires
 between-requires c κs =
     let a = c .before .before .before .before .before .args in
     let k = size-blocks (length (a .image .now)) (passed (c .before .before .is-image .ensures) (c .before .if1 .left)) in
-    (c .if2 .left, (omega arith, (k .2, (k .1, few-none 0))))
+    (c .if2 .left, (omega arith, (k .2, (k .1, few-up _ 0 _ (few-none 0) (omega arith)))))
 
 returns-3 : tie.Need-returns-3
 unfolding reportOf reportNumber imageOk keyOk capacityOf countOn walk
