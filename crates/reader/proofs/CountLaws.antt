@@ -3,11 +3,11 @@
 use mathlib.Core.Path.{_≡_, refl, sym, ap, _∙_}
 use mathlib.Core.Bool.{Bool, true, false}
 use mathlib.Core.List.{List, [], _∷_, _++_}
-use Prim.Native.Nat.{ℕ, zero, suc, _+_, _-_, _≤_, _<_, min}
+use Prim.Native.Nat.{ℕ, suc, _+_, _-_, _≤_, _<_, min}
 use native.Mathlib.Numerals.{add-one}
 use native.Mathlib.Omega.{arith}
 use Rattle.laws.specs.Choose.{pick}
-use Rattle.block.specs.Content.{Content, shut, more, head, Head, first, mark, eod}
+use Rattle.block.specs.Content.{Content, shut, more, head, first, mark, eod}
 use Rattle.block.specs.Image.{View}
 use Rattle.block.specs.Calls.{seenOf}
 use Rattle.block.specs.declared.Seen.{Seen}
@@ -15,7 +15,7 @@ use Rattle.block.specs.declared.Seen.the-variants as seen
 use Rattle.reader.specs.declared.Outcome.{Outcome}
 use Rattle.reader.specs.declared.Outcome.the-variants as o
 use Rattle.reader.specs.declared.Tally.{Tally}
-use Rattle.reader.specs.Walk.{Told, Record, Mark, End, Bad, Stray, Cut, Answer, answer, inside, gather, between, readAt, isEnd, Visit, visit, walkFrom}
+use Rattle.reader.specs.Walk.{Told, Record, Mark, End, Bad, Stray, Cut, inside, gather, between, readAt, isEnd, Visit, visit, walkFrom}
 use Rattle.reader.specs.Reading.{outcomeOf, counted, tallied}
 use Rattle.reader.specs.Counting.{countedBy, Few, countOn, after}
 use Rattle.reader.proofs.WalkLaws.{walkFrom-over, walkFrom-step}

@@ -3,28 +3,27 @@
 use borrow.Author.Tests.{eq-eqb, ne-eqb, lt-ltb, le-ltb, le-leb, eqb-true, leb-true}
 use mathlib.Core.Path.{_≡_, refl, sym, ap, _∙_}
 use mathlib.Core.Bool.{Bool, true, false, _&&_}
-use mathlib.Core.List.{List, [], _∷_, _++_}
+use mathlib.Core.List.{List, _++_}
 use Prim.Native.Nat.{ℕ, zero, suc, _+_, _-_, _*_, _≤_, _<_, min}
 use native.Mathlib.Numerals.{add-one}
 use native.Mathlib.Omega.{arith}
-use lib.Dec.{eqb, leb, ltb}
-use lib.ListN.{length, getD, take, drop, replicate, length-append, length-take, length-drop}
+use lib.Dec.{eqb, leb}
+use lib.ListN.{length, getD, take, drop, length-append, length-take, length-drop}
 use lib.Seq.{length-take-le, take-all}
 use Rattle.laws.specs.Choose.{pick}
-use Rattle.laws.proofs.ChooseLaws.{both-left, both-right}
+use Rattle.laws.proofs.ChooseLaws.{both-right}
 use Rattle.aead.specs.Sealing.{opened, fits}
-use Rattle.block.specs.Content.{Content, shut, more, head, Head, first, mark, eod}
+use Rattle.block.specs.Content.{Content, shut, more, head, first, mark, eod}
 use Rattle.block.specs.Format.{nonceAt, number2, number4, allZero, usedOk, contentOf, openBlock}
 use Rattle.block.specs.Image.{View, view, blockAt}
 use Rattle.block.specs.Calls.{seenOf, openable}
 use Rattle.block.specs.declared.Seen.{Seen}
 use Rattle.block.specs.declared.Seen.the-variants as seen
-use Rattle.reader.specs.declared.Outcome.{Outcome}
 use Rattle.reader.specs.declared.Outcome.the-variants as o
 use Rattle.reader.specs.declared.Got.{Got}
 use Rattle.reader.specs.declared.Spaced.{Spaced}
 use Rattle.reader.specs.declared.Spaced.the-variants as s
-use Rattle.reader.specs.Walk.{Told, Record, Mark, End, Bad, Stray, Cut, Answer, answer, inside, gather, begins, between, readAt, isEnd}
+use Rattle.reader.specs.Walk.{Told, Record, Mark, End, Bad, Stray, Cut, Answer, inside, gather, between, readAt, isEnd}
 use Rattle.reader.specs.Reading.{outcomeOf, gotOf, spaceOn, spaceFrom}
 use Rattle.reader.specs.Counting.{got, insideBy, restBy, turn}
 use Rattle.reader.proofs.WalkLaws.{Onward, read-onward}

@@ -16,7 +16,7 @@ use Rattle.laws.proofs.OrderLaws.{lt-or-ge}
 use Rattle.block.specs.Content.{Content, shut, more, head, first, mark, eod}
 use Rattle.block.specs.Image.{View, view, capacityOf, imageOk}
 use Rattle.reader.specs.declared.Spaced.the-variants as s
-use Rattle.reader.specs.Walk.{Told, Record, Mark, End, Bad, Stray, Cut, Answer, answer, inside, gather, between, readAt, isEnd, Visit, visit, walkFrom}
+use Rattle.reader.specs.Walk.{Told, Record, Mark, End, Bad, Stray, Cut, Answer, inside, gather, between, readAt, isEnd, Visit, visit, walkFrom}
 use Rattle.reader.specs.Reading.{outcomeOf, keyOk, spaceFrom, spaceNumber, spacing}
 use Rattle.reader.specs.Counting.{turn}
 use Rattle.reader.specs.Marks.{markAt, marksOf, endAt, endOf, spacedOver}

@@ -12,9 +12,9 @@ use lib.Dec.{ltb}
 use lib.ListN.{length}
 use Rattle.laws.specs.Choose.{pick}
 use Rattle.laws.proofs.OrderLaws.{lt-or-ge}
-use Rattle.block.specs.Content.{Content, shut, more, head, Head, first, mark, eod}
+use Rattle.block.specs.Content.{Content, shut, more, head, first, mark, eod}
 use Rattle.block.specs.Image.{View}
-use Rattle.reader.specs.Walk.{Told, Answer, answer, inside, gather, between, readAt, isEnd, Visit, visit, walkFrom, walk}
+use Rattle.reader.specs.Walk.{Answer, inside, gather, between, readAt, isEnd, Visit, visit, walkFrom, walk}
 
 -- ---- where a read goes on: past its place, and on the cartridge
 pub record Onward (q most : ℕ) (a : Answer) : Type 0 where

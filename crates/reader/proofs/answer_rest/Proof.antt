@@ -14,9 +14,6 @@ use Rattle.reader.specs.Counting.{got, restBy}
 use Rattle.reader.proofs.SpaceLaws.{seen-most, rest-on, rest-end}
 use Rattle.reader.proofs.answer_rest.Statement.{statement}
 use Rattle.reader.proofs.answer_rest.Tie as tie
-use Rattle.reader.proofs.answer_rest.Reads as reads
-use Rattle.reader.proofs.answer_rest.Lts as lts
-use Rattle.reader.proofs.seen_at.Reads as seen-at-reads
 
 abbrev Inv-loop : tie.InvT-loop
 Inv-loop key id recording image p c used end held₀ q₀ held q =
@@ -26,19 +23,15 @@ Inv-loop key id recording image p c used end held₀ q₀ held q =
 abbrev μ-loop : tie.MeasureT-loop
 μ-loop key id recording image p c used end held₀ q₀ held q = end - q
 
--- src/lib.rt:78:22
 add-if1 : tie.Need-add-if1 Inv-loop μ-loop
 add-if1 c = omega arith
 
--- src/lib.rt:78:42
 add-end : tie.Need-add-end Inv-loop μ-loop
 add-end c = omega arith
 
--- src/lib.rt:80:17
 add-q : tie.Need-add-q Inv-loop μ-loop
 add-q c = omega arith
 
--- src/lib.rt:81:5
 loop-holds : tie.Need-loop-holds Inv-loop μ-loop
 loop-holds c =
     let a = c .before .before .before .args in
@@ -46,19 +39,15 @@ loop-holds c =
     let k : c .if1 .end - (a .p + 1) ≡ min (a .c - (a .p + 1)) 63 = omega arith in
     (omega arith, omega arith, e, omega arith, ap (λ (n : ℕ). restBy n (view (a .key .now) (a .id) (a .recording) (a .image .now)) (a .p + 1) (a .used)) k)
 
--- src/lib.rt:82:15
 seen-at-requires : tie.Need-seen-at-requires Inv-loop μ-loop
 seen-at-requires c κs = search needs
 
--- src/lib.rt:84:39
 enum-told : tie.Need-enum-told Inv-loop μ-loop
 enum-told c = search needs
 
--- src/lib.rt:84:62
 add-t19 : tie.Need-add-t19 Inv-loop μ-loop
 add-t19 c = omega arith
 
--- src/lib.rt:84:17
 returns : tie.Need-returns Inv-loop μ-loop
 returns c =
     let s = c .before .before in
@@ -67,11 +56,9 @@ returns c =
     let v = view (a .key .now) (a .id) (a .recording) (a .image .now) in
     ap (got (o.Cut (l .q))) (add-one (l .q)) ∙ rest-on _ v (l .q) (l .held) (s .seen-at .result) (seen.Shut) (s .before .loop-test .taken) (s .seen-at .ensures) (c .enum-told .given .1) ∙ l .inv .4
 
--- src/lib.rt:86:31
 enum-known-last : tie.Need-enum-known-last Inv-loop μ-loop
 enum-known-last c = search needs
 
--- src/lib.rt:88:59
 add-t21 : tie.Need-add-t21 Inv-loop μ-loop
 add-t21 c =
     let d = c .before .before in
@@ -82,11 +69,9 @@ add-t21 c =
     let k = seen-most (a .key .now) (a .id) (a .recording) (a .image .now) (l .q) (s .seen-at .result) (seen.More (w .0) (w .1 .0)) (s .seen-at .ensures) (d .last .given .1) in
     omega arith
 
--- src/lib.rt:88:76
 add-t23 : tie.Need-add-t23 Inv-loop μ-loop
 add-t23 c = omega arith
 
--- src/lib.rt:88:21
 returns-2 : tie.Need-returns-2 Inv-loop μ-loop
 returns-2 c =
     let d = c .before .before in
@@ -98,7 +83,6 @@ returns-2 c =
     ap (got (o.Record (l .held + w .1 .0))) (add-one (l .q))
     ∙ rest-on _ v (l .q) (l .held) (s .seen-at .result) (seen.More true (w .1 .0)) (s .before .loop-test .taken) (s .seen-at .ensures) (d .last .given .1 ∙ ap (λ (b : Bool). seen.More b (w .1 .0)) (c .if2 .taken)) ∙ l .inv .4
 
--- src/lib.rt:90:17
 add-held : tie.Need-add-held Inv-loop μ-loop
 add-held c =
     let d = c .before .before in
@@ -109,11 +93,9 @@ add-held c =
     let k = seen-most (a .key .now) (a .id) (a .recording) (a .image .now) (l .q) (s .seen-at .result) (seen.More (w .0) (w .1 .0)) (s .seen-at .ensures) (d .last .given .1) in
     omega arith
 
--- src/lib.rt:93:39
 enum-told-2 : tie.Need-enum-told-2 Inv-loop μ-loop
 enum-told-2 c = search needs
 
--- src/lib.rt:93:17
 returns-3 : tie.Need-returns-3 Inv-loop μ-loop
 returns-3 c =
     let s = c .before .before in
@@ -122,11 +104,9 @@ returns-3 c =
     let v = view (a .key .now) (a .id) (a .recording) (a .image .now) in
     rest-on _ v (l .q) (l .held) (s .seen-at .result) (seen.First (c .enum-told2 .given .0 .0) (c .enum-told2 .given .0 .1 .0)) (s .before .loop-test .taken) (s .seen-at .ensures) (c .enum-told2 .given .1) ∙ l .inv .4
 
--- src/lib.rt:96:39
 enum-told-3 : tie.Need-enum-told-3 Inv-loop μ-loop
 enum-told-3 c = search needs
 
--- src/lib.rt:96:17
 returns-4 : tie.Need-returns-4 Inv-loop μ-loop
 returns-4 c =
     let s = c .before .before in
@@ -135,11 +115,9 @@ returns-4 c =
     let v = view (a .key .now) (a .id) (a .recording) (a .image .now) in
     rest-on _ v (l .q) (l .held) (s .seen-at .result) (seen.Mark) (s .before .loop-test .taken) (s .seen-at .ensures) (c .enum-told3 .given .1) ∙ l .inv .4
 
--- src/lib.rt:99:39
 enum-told-4 : tie.Need-enum-told-4 Inv-loop μ-loop
 enum-told-4 c = search needs
 
--- src/lib.rt:99:17
 returns-5 : tie.Need-returns-5 Inv-loop μ-loop
 returns-5 c =
     let s = c .before .before in
@@ -148,15 +126,12 @@ returns-5 c =
     let v = view (a .key .now) (a .id) (a .recording) (a .image .now) in
     rest-on _ v (l .q) (l .held) (s .seen-at .result) (seen.End) (s .before .loop-test .taken) (s .seen-at .ensures) (c .enum-told4 .given .1) ∙ l .inv .4
 
--- src/lib.rt:102:9
 add-q-2 : tie.Need-add-q-2 Inv-loop μ-loop
 add-q-2 c = omega arith
 
--- src/lib.rt:81:5
 loop-less : tie.Need-loop-less Inv-loop μ-loop
 loop-less c = omega arith
 
--- src/lib.rt:81:5
 loop-again : tie.Need-loop-again Inv-loop μ-loop
 loop-again c =
     let d = c .before .before in
@@ -169,7 +144,6 @@ loop-again c =
     (omega arith, omega arith, l .inv .2, omega arith,
     rest-on _ v (l .q) (l .held) (s .seen-at .result) (seen.More false (w .1 .0)) (s .before .loop-test .taken) (s .seen-at .ensures) (d .last .given .1 ∙ ap (λ (b : Bool). seen.More b (w .1 .0)) (c .if2 .left)) ∙ l .inv .4)
 
--- src/lib.rt:74:1
 returns-6 : tie.Need-returns-6 Inv-loop μ-loop
 returns-6 c =
     let l = c .before .loop in

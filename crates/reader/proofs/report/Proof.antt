@@ -13,10 +13,6 @@ use Rattle.reader.proofs.SizeLaws.{size-blocks}
 use Rattle.reader.proofs.CountLaws.{few-up, few-none}
 use Rattle.reader.proofs.report.Statement.{statement}
 use Rattle.reader.proofs.report.Tie as tie
-use Rattle.reader.proofs.report.Reads as reads
-use Rattle.reader.proofs.report.Lts as lts
-use Rattle.block.proofs.is_image.Reads as is-image-reads
-use Rattle.reader.proofs.between.Reads as between-reads
 
 is-image-requires : tie.Need-is-image-requires
 is-image-requires c κs = search needs

@@ -7,43 +7,31 @@ use lib.ListN.{length-replicate}
 use Rattle.reader.proofs.SpaceLaws.{seen-is}
 use Rattle.reader.proofs.seen_at.Statement.{statement}
 use Rattle.reader.proofs.seen_at.Tie as tie
-use Rattle.reader.proofs.seen_at.Reads as reads
-use Rattle.reader.proofs.seen_at.Lts as lts
-use Rattle.block.proofs.open_block.Reads as open-block-reads
 
--- src/lib.rt:68:14
 mul-at : tie.Need-mul-at
 mul-at c = search needs
 
--- src/lib.rt:70:43
 cast-open-block : tie.Need-cast-open-block
 cast-open-block c = search needs
 
--- src/lib.rt:70:64
 add-open-block : tie.Need-add-open-block
 add-open-block c = search needs
 
--- src/lib.rt:70:53
 sub-open-block : tie.Need-sub-open-block
 sub-open-block c = search needs
 
--- src/lib.rt:70:53
 part-open-block-start : tie.Need-part-open-block-start
 part-open-block-start c = search needs
 
--- src/lib.rt:70:53
 part-open-block-end : tie.Need-part-open-block-end
 part-open-block-end c = search needs
 
--- src/lib.rt:70:75
 slice-aggregate-open-block : tie.Need-slice-aggregate-open-block
 slice-aggregate-open-block c = search needs
 
--- src/lib.rt:70:5
 open-block-requires : tie.Need-open-block-requires
 open-block-requires c κs = search needs
 
--- src/lib.rt:64:1
 returns : tie.Need-returns
 returns c =
     let o = c .before .open-block in

@@ -2,7 +2,6 @@
 -- Assumes nothing.
 use borrow.Author.Needs.{needs}
 use borrow.Author.Tests.{eq-eqb, ne-eqb, lt-ltb, le-ltb}
-use mathlib.Core.Path.{sym, _∙_}
 use native.Mathlib.Omega.{arith}
 use lib.ListN.{length}
 use Rattle.laws.proofs.ChooseLaws.{passed, failed}
@@ -11,10 +10,6 @@ use Rattle.reader.specs.Reading.{keyOk, spaceNumber, spacing}
 use Rattle.reader.proofs.SizeLaws.{size-blocks}
 use Rattle.reader.proofs.space.Statement.{statement}
 use Rattle.reader.proofs.space.Tie as tie
-use Rattle.reader.proofs.space.Reads as reads
-use Rattle.reader.proofs.space.Lts as lts
-use Rattle.block.proofs.is_image.Reads as is-image-reads
-use Rattle.reader.proofs.space_on.Reads as space-on-reads
 
 is-image-requires : tie.Need-is-image-requires
 is-image-requires c κs = search needs
