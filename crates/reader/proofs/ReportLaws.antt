@@ -79,7 +79,7 @@ tallied-counts w =
       ends = tallied-adds (λ t. t .ends) ofEnd adds-end w (none 0) ∙ omega arith;
       bads = tallied-adds (λ t. t .bads) ofBad adds-bad w (none 0) ∙ omega arith;
       strays = tallied-adds (λ t. t .strays) ofStray adds-stray w (none 0) ∙ omega arith;
-      cuts = tallied-adds (λ t. t .cuts) ofCut adds-cut w (none 0) ∙ omega arith
+      cuts = tallied-adds (λ t. t .cuts) ofCut adds-cut w (none 0) ∙ omega arith;
     }
 
 -- ---- the marks counted are the marks that spacing finds

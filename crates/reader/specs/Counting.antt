@@ -17,6 +17,9 @@ use Rattle.reader.specs.Reading.{counted, tallied}
 abbrev pub got : Outcome → ℕ → Got
 got x n = record { outcome = x; next = n }
 
+abbrev pub cutAt : ℕ → ℕ → Got
+cutAt q n = got (o.Cut q) n
+
 -- ---- inside a record: block q is seen as s, `held` bytes came before it
 abbrev pub insideBy : Seen → ℕ → ℕ → (ℕ → Got) → Got
 insideBy seen.Shut q held on = got (o.Cut q) (suc q)

@@ -9,7 +9,7 @@ ghost use Rattle.block.specs.Format.{payload};
 ghost use Rattle.block.specs.Image.{view, capacityOf};
 ghost use Rattle.block.specs.Calls.{seenOf};
 ghost use Rattle.reader.specs.Walk.{readAt, gather};
-ghost use Rattle.reader.specs.Counting.{restBy, turn, countedBy, Few, countOn, after};
+ghost use Rattle.reader.specs.Counting.{cutAt, restBy, turn, countedBy, Few, countOn, after};
 ghost use Rattle.reader.specs.Reading.{readNumber, gotOf, filled, Read, partOf, lookNumber, lookPart, lookPlace, spaceFrom, spaceNumber, spacing, counted, reportNumber, reportOf};
 
 pub enum Outcome {
@@ -67,11 +67,36 @@ fn seen_at(key: &[u8], id: u32, recording: u64, image: &[u8], q: usize) -> block
 {
     let at = q * 512;
     let mut scratch = [0u8; 488];
-    block::open_block(key, id, recording, q as u32, &image[at..at + 512], &mut scratch)
+    block::open_block(
+        key,
+        id,
+        recording,
+        q as u32,
+        &image[at..at + 512],
+        &mut scratch,
+    )
+}
+
+// A record cut at q.
+fn cut(q: usize, next: usize) -> Got
+    ensures { λ r. ⌜ r ≡ cutAt q next ⌝ }
+{
+    Got {
+        outcome: Outcome::Cut(q),
+        next: next,
+    }
 }
 
 // The rest of a read: the record that begins at p goes on behind its first block, which has `used` bytes.
-fn answer_rest(key: &[u8], id: u32, recording: u64, image: &[u8], p: usize, c: usize, used: usize) -> Got
+fn answer_rest(
+    key: &[u8],
+    id: u32,
+    recording: u64,
+    image: &[u8],
+    p: usize,
+    c: usize,
+    used: usize,
+) -> Got
     requires { ⌜ (length (now key) ≡ 24) × ((p < c) × ((c * 512 ≤ length (now image)) × ((c ≤ 128) × (used ≤ 488)))) ⌝ }
     ensures { λ r. ⌜ r ≡ restBy (min (c - (p + 1)) 63) (view (now (key .entry)) id recording (now (image .entry))) (p + 1) used ⌝ }
 {
@@ -80,28 +105,23 @@ fn answer_rest(key: &[u8], id: u32, recording: u64, image: &[u8], p: usize, c: u
     let mut q = p + 1;
     while q < end {
         match seen_at(key, id, recording, image, q) {
-            block::Seen::Shut => {
-                return Got { outcome: Outcome::Cut(q), next: q + 1 };
-            }
+            block::Seen::Shut => return cut(q, q + 1),
             block::Seen::More(last, n) => {
                 if last {
-                    return Got { outcome: Outcome::Record(held + n), next: q + 1 };
+                    return Got {
+                        outcome: Outcome::Record(held + n),
+                        next: q + 1,
+                    };
                 }
                 held += n;
             }
-            block::Seen::First(_, _) => {
-                return Got { outcome: Outcome::Cut(q), next: q };
-            }
-            block::Seen::Mark => {
-                return Got { outcome: Outcome::Cut(q), next: q };
-            }
-            block::Seen::End => {
-                return Got { outcome: Outcome::Cut(q), next: q };
-            }
+            block::Seen::First(_, _) => return cut(q, q),
+            block::Seen::Mark => return cut(q, q),
+            block::Seen::End => return cut(q, q),
         }
         q += 1;
     }
-    Got { outcome: Outcome::Cut(q), next: q }
+    cut(q, q)
 }
 
 // A read at p with no receiving buffer.
@@ -110,17 +130,32 @@ fn answer_at(key: &[u8], id: u32, recording: u64, image: &[u8], p: usize, c: usi
     ensures { λ r. ⌜ r ≡ gotOf (readAt (view (now (key .entry)) id recording (now (image .entry))) c p) ⌝ }
 {
     match seen_at(key, id, recording, image, p) {
-        block::Seen::Shut => Got { outcome: Outcome::Bad, next: p + 1 },
+        block::Seen::Shut => Got {
+            outcome: Outcome::Bad,
+            next: p + 1,
+        },
         block::Seen::First(last, used) => {
             if last {
-                Got { outcome: Outcome::Record(used), next: p + 1 }
+                Got {
+                    outcome: Outcome::Record(used),
+                    next: p + 1,
+                }
             } else {
                 answer_rest(key, id, recording, image, p, c, used)
             }
         }
-        block::Seen::More(_, _) => Got { outcome: Outcome::Stray, next: p + 1 },
-        block::Seen::Mark => Got { outcome: Outcome::Mark, next: p + 1 },
-        block::Seen::End => Got { outcome: Outcome::End, next: p },
+        block::Seen::More(_, _) => Got {
+            outcome: Outcome::Stray,
+            next: p + 1,
+        },
+        block::Seen::Mark => Got {
+            outcome: Outcome::Mark,
+            next: p + 1,
+        },
+        block::Seen::End => Got {
+            outcome: Outcome::End,
+            next: p,
+        },
     }
 }
 
@@ -140,7 +175,16 @@ fn turn_of(o: Outcome) -> u8
 }
 
 // Spacing from p on, with n marks wanted and m passed: it falls back on itself with fewer blocks left.
-fn space_on(key: &[u8], id: u32, recording: u64, image: &[u8], c: usize, p: usize, n: usize, m: usize) -> Spaced
+fn space_on(
+    key: &[u8],
+    id: u32,
+    recording: u64,
+    image: &[u8],
+    c: usize,
+    p: usize,
+    n: usize,
+    m: usize,
+) -> Spaced
     requires { ⌜ (length (now key) ≡ 24) × ((p ≤ c) × ((c * 512 ≤ length (now image)) × ((c ≤ 128) × (m ≤ p)))) ⌝ }
     ensures { λ r. ⌜ ((f : ℕ) → c - p ≤ f → r ≡ spaceFrom f (view (now (key .entry)) id recording (now (image .entry))) c p n m) ⌝ }
 {
@@ -226,41 +270,62 @@ fn between(key: &[u8], id: u32, recording: u64, image: &[u8], c: usize, p: usize
         return t;
     }
     match seen_at(key, id, recording, image, p) {
-        block::Seen::Shut => between(key, id, recording, image, c, p + 1, add_one(t, Outcome::Bad)),
+        block::Seen::Shut => {
+            let u = add_one(t, Outcome::Bad);
+            between(key, id, recording, image, c, p + 1, u)
+        }
         block::Seen::First(last, used) => {
             if last {
-                between(key, id, recording, image, c, p + 1, add_one(t, Outcome::Record(used)))
+                let u = add_one(t, Outcome::Record(used));
+                between(key, id, recording, image, c, p + 1, u)
             } else {
                 inside(key, id, recording, image, c, p, p + 1, t)
             }
         }
-        block::Seen::More(_, _) => between(key, id, recording, image, c, p + 1, add_one(t, Outcome::Stray)),
-        block::Seen::Mark => between(key, id, recording, image, c, p + 1, add_one(t, Outcome::Mark)),
+        block::Seen::More(_, _) => {
+            let u = add_one(t, Outcome::Stray);
+            between(key, id, recording, image, c, p + 1, u)
+        }
+        block::Seen::Mark => {
+            let u = add_one(t, Outcome::Mark);
+            between(key, id, recording, image, c, p + 1, u)
+        }
         block::Seen::End => add_one(t, Outcome::End),
     }
 }
 
-// The report inside the record that began at p: block q is the next.
-fn inside(key: &[u8], id: u32, recording: u64, image: &[u8], c: usize, p: usize, q: usize, t: Tally) -> Tally
+// The report inside the record that began at p: block q is the next. `u` counts a Cut at q.
+fn inside(
+    key: &[u8],
+    id: u32,
+    recording: u64,
+    image: &[u8],
+    c: usize,
+    p: usize,
+    q: usize,
+    t: Tally,
+) -> Tally
     requires { ⌜ (length (now key) ≡ 24) × ((p < q) × ((q ≤ min c (p + 64)) × ((c * 512 ≤ length (now image)) × ((c ≤ 128) × Few t p)))) ⌝ }
     ensures { λ r. ⌜ ((f : ℕ) (b : List ℕ) → c - q ≤ f → r ≡ after (gather (min c (p + 64) - q) (view (now (key .entry)) id recording (now (image .entry))) q b) t (countOn f (view (now (key .entry)) id recording (now (image .entry))) c)) ⌝ }
 {
+    let u = add_one(t, Outcome::Cut(q));
     let end = if c < p + 64 { c } else { p + 64 };
     if end <= q {
-        return between(key, id, recording, image, c, q, add_one(t, Outcome::Cut(q)));
+        return between(key, id, recording, image, c, q, u);
     }
     match seen_at(key, id, recording, image, q) {
-        block::Seen::Shut => between(key, id, recording, image, c, q + 1, add_one(t, Outcome::Cut(q))),
+        block::Seen::Shut => between(key, id, recording, image, c, q + 1, u),
         block::Seen::More(last, used) => {
             if last {
-                between(key, id, recording, image, c, q + 1, add_one(t, Outcome::Record((q - p) * 488 + used)))
+                let w = add_one(t, Outcome::Record((q - p) * 488 + used));
+                between(key, id, recording, image, c, q + 1, w)
             } else {
                 inside(key, id, recording, image, c, p, q + 1, t)
             }
         }
-        block::Seen::First(_, _) => between(key, id, recording, image, c, q, add_one(t, Outcome::Cut(q))),
-        block::Seen::Mark => between(key, id, recording, image, c, q, add_one(t, Outcome::Cut(q))),
-        block::Seen::End => between(key, id, recording, image, c, q, add_one(t, Outcome::Cut(q))),
+        block::Seen::First(_, _) => between(key, id, recording, image, c, q, u),
+        block::Seen::Mark => between(key, id, recording, image, c, q, u),
+        block::Seen::End => between(key, id, recording, image, c, q, u),
     }
 }
 
@@ -269,11 +334,35 @@ pub fn report(key: &[u8], id: u32, recording: u64, image: &[u8]) -> Tally
     ensures { λ r. ⌜ r ≡ reportOf (now (key .entry)) id recording (now (image .entry)) ⌝ }
 {
     if !block::is_image(image.len()) {
-        return Tally { number: 1, records: 0, marks: 0, ends: 0, bads: 0, strays: 0, cuts: 0 };
+        return Tally {
+            number: 1,
+            records: 0,
+            marks: 0,
+            ends: 0,
+            bads: 0,
+            strays: 0,
+            cuts: 0,
+        };
     }
     if key.len() != 24 {
-        return Tally { number: 2, records: 0, marks: 0, ends: 0, bads: 0, strays: 0, cuts: 0 };
+        return Tally {
+            number: 2,
+            records: 0,
+            marks: 0,
+            ends: 0,
+            bads: 0,
+            strays: 0,
+            cuts: 0,
+        };
     }
-    let none = Tally { number: 0, records: 0, marks: 0, ends: 0, bads: 0, strays: 0, cuts: 0 };
+    let none = Tally {
+        number: 0,
+        records: 0,
+        marks: 0,
+        ends: 0,
+        bads: 0,
+        strays: 0,
+        cuts: 0,
+    };
     between(key, id, recording, image, image.len() / 512, 0, none)
 }

@@ -10,7 +10,7 @@ use native.Mathlib.Omega.{arith}
 use Rattle.block.specs.Image.{view}
 use Rattle.block.specs.declared.Seen.the-variants as seen
 use Rattle.reader.specs.declared.Outcome.the-variants as o
-use Rattle.reader.specs.Counting.{got, restBy}
+use Rattle.reader.specs.Counting.{got, cutAt, restBy}
 use Rattle.reader.proofs.SpaceLaws.{seen-most, rest-on, rest-end}
 use Rattle.reader.proofs.answer_rest.Statement.{statement}
 use Rattle.reader.proofs.answer_rest.Tie as tie
@@ -45,22 +45,25 @@ seen-at-requires c κs = search needs
 enum-told : tie.Need-enum-told Inv-loop μ-loop
 enum-told c = search needs
 
-add-t19 : tie.Need-add-t19 Inv-loop μ-loop
-add-t19 c = omega arith
+add-cut : tie.Need-add-cut Inv-loop μ-loop
+add-cut c = omega arith
+
+cut-requires : tie.Need-cut-requires Inv-loop μ-loop
+cut-requires c κs = search needs
 
 returns : tie.Need-returns Inv-loop μ-loop
 returns c =
-    let s = c .before .before in
+    let s = c .before .before .before in
     let l = s .before .before .loop in
     let a = s .before .before .before .before .before .before .args in
     let v = view (a .key .now) (a .id) (a .recording) (a .image .now) in
-    ap (got (o.Cut (l .q))) (add-one (l .q)) ∙ rest-on _ v (l .q) (l .held) (s .seen-at .result) (seen.Shut) (s .before .loop-test .taken) (s .seen-at .ensures) (c .enum-told .given .1) ∙ l .inv .4
+    c .cut .ensures ∙ ap (cutAt (l .q)) (add-one (l .q)) ∙ rest-on _ v (l .q) (l .held) (s .seen-at .result) (seen.Shut) (s .before .loop-test .taken) (s .seen-at .ensures) (c .before .enum-told .given .1) ∙ l .inv .4
 
 enum-known-last : tie.Need-enum-known-last Inv-loop μ-loop
 enum-known-last c = search needs
 
-add-t21 : tie.Need-add-t21 Inv-loop μ-loop
-add-t21 c =
+add-t20 : tie.Need-add-t20 Inv-loop μ-loop
+add-t20 c =
     let d = c .before .before in
     let w = d .last .given .0 in
     let s = d .before .before in
@@ -69,8 +72,8 @@ add-t21 c =
     let k = seen-most (a .key .now) (a .id) (a .recording) (a .image .now) (l .q) (s .seen-at .result) (seen.More (w .0) (w .1 .0)) (s .seen-at .ensures) (d .last .given .1) in
     omega arith
 
-add-t23 : tie.Need-add-t23 Inv-loop μ-loop
-add-t23 c = omega arith
+add-t22 : tie.Need-add-t22 Inv-loop μ-loop
+add-t22 c = omega arith
 
 returns-2 : tie.Need-returns-2 Inv-loop μ-loop
 returns-2 c =
@@ -96,35 +99,44 @@ add-held c =
 enum-told-2 : tie.Need-enum-told-2 Inv-loop μ-loop
 enum-told-2 c = search needs
 
+cut-requires-2 : tie.Need-cut-requires-2 Inv-loop μ-loop
+cut-requires-2 c κs = search needs
+
 returns-3 : tie.Need-returns-3 Inv-loop μ-loop
 returns-3 c =
-    let s = c .before .before in
+    let s = c .before .before .before in
     let l = s .before .before .loop in
     let a = s .before .before .before .before .before .before .args in
     let v = view (a .key .now) (a .id) (a .recording) (a .image .now) in
-    rest-on _ v (l .q) (l .held) (s .seen-at .result) (seen.First (c .enum-told2 .given .0 .0) (c .enum-told2 .given .0 .1 .0)) (s .before .loop-test .taken) (s .seen-at .ensures) (c .enum-told2 .given .1) ∙ l .inv .4
+    c .cut2 .ensures ∙ rest-on _ v (l .q) (l .held) (s .seen-at .result) (seen.First (c .before .enum-told2 .given .0 .0) (c .before .enum-told2 .given .0 .1 .0)) (s .before .loop-test .taken) (s .seen-at .ensures) (c .before .enum-told2 .given .1) ∙ l .inv .4
 
 enum-told-3 : tie.Need-enum-told-3 Inv-loop μ-loop
 enum-told-3 c = search needs
 
+cut-requires-3 : tie.Need-cut-requires-3 Inv-loop μ-loop
+cut-requires-3 c κs = search needs
+
 returns-4 : tie.Need-returns-4 Inv-loop μ-loop
 returns-4 c =
-    let s = c .before .before in
+    let s = c .before .before .before in
     let l = s .before .before .loop in
     let a = s .before .before .before .before .before .before .args in
     let v = view (a .key .now) (a .id) (a .recording) (a .image .now) in
-    rest-on _ v (l .q) (l .held) (s .seen-at .result) (seen.Mark) (s .before .loop-test .taken) (s .seen-at .ensures) (c .enum-told3 .given .1) ∙ l .inv .4
+    c .cut3 .ensures ∙ rest-on _ v (l .q) (l .held) (s .seen-at .result) (seen.Mark) (s .before .loop-test .taken) (s .seen-at .ensures) (c .before .enum-told3 .given .1) ∙ l .inv .4
 
 enum-told-4 : tie.Need-enum-told-4 Inv-loop μ-loop
 enum-told-4 c = search needs
 
+cut-requires-4 : tie.Need-cut-requires-4 Inv-loop μ-loop
+cut-requires-4 c κs = search needs
+
 returns-5 : tie.Need-returns-5 Inv-loop μ-loop
 returns-5 c =
-    let s = c .before .before in
+    let s = c .before .before .before in
     let l = s .before .before .loop in
     let a = s .before .before .before .before .before .before .args in
     let v = view (a .key .now) (a .id) (a .recording) (a .image .now) in
-    rest-on _ v (l .q) (l .held) (s .seen-at .result) (seen.End) (s .before .loop-test .taken) (s .seen-at .ensures) (c .enum-told4 .given .1) ∙ l .inv .4
+    c .cut4 .ensures ∙ rest-on _ v (l .q) (l .held) (s .seen-at .result) (seen.End) (s .before .loop-test .taken) (s .seen-at .ensures) (c .before .enum-told4 .given .1) ∙ l .inv .4
 
 add-q-2 : tie.Need-add-q-2 Inv-loop μ-loop
 add-q-2 c = omega arith
@@ -140,15 +152,22 @@ loop-again c =
     let l = s .before .before .loop in
     let a = s .before .before .before .before .before .before .args in
     let k = seen-most (a .key .now) (a .id) (a .recording) (a .image .now) (l .q) (s .seen-at .result) (seen.More (w .0) (w .1 .0)) (s .seen-at .ensures) (d .last .given .1) in
-    let v = view (a .key .now) (a .id) (a .recording) (a .image .now) in
-    (omega arith, omega arith, l .inv .2, omega arith,
-    rest-on _ v (l .q) (l .held) (s .seen-at .result) (seen.More false (w .1 .0)) (s .before .loop-test .taken) (s .seen-at .ensures) (d .last .given .1 ∙ ap (λ (b : Bool). seen.More b (w .1 .0)) (c .if2 .left)) ∙ l .inv .4)
+    let v = view (a .key .now) (a .id) (a .recording) (a .image .now) in (
+      omega arith,
+      omega arith,
+      l .inv .2,
+      omega arith,
+      rest-on _ v (l .q) (l .held) (s .seen-at .result) (seen.More false (w .1 .0)) (s .before .loop-test .taken) (s .seen-at .ensures) (d .last .given .1 ∙ ap (λ (b : Bool). seen.More b (w .1 .0)) (c .if2 .left)) ∙ l .inv .4,
+    )
+
+cut-requires-5 : tie.Need-cut-requires-5 Inv-loop μ-loop
+cut-requires-5 c κs = search needs
 
 returns-6 : tie.Need-returns-6 Inv-loop μ-loop
 returns-6 c =
-    let l = c .before .loop in
-    let a = c .before .before .before .before .before .args in
-    sym (rest-end _ (view (a .key .now) (a .id) (a .recording) (a .image .now)) (l .q) (l .held) (omega arith)) ∙ l .inv .4
+    let l = c .before .before .loop in
+    let a = c .before .before .before .before .before .before .args in
+    c .cut5 .ensures ∙ sym (rest-end _ (view (a .key .now) (a .id) (a .recording) (a .image .now)) (l .q) (l .held) (omega arith)) ∙ l .inv .4
 
 pub answer-rest-spec : {M : Type 1} → statement M
 answer-rest-spec =
@@ -162,20 +181,25 @@ answer-rest-spec =
     loop-holds
     seen-at-requires
     enum-told
-    add-t19
+    add-cut
+    cut-requires
     returns
     enum-known-last
-    add-t21
-    add-t23
+    add-t20
+    add-t22
     returns-2
     add-held
     enum-told-2
+    cut-requires-2
     returns-3
     enum-told-3
+    cut-requires-3
     returns-4
     enum-told-4
+    cut-requires-4
     returns-5
     add-q-2
     loop-less
     loop-again
+    cut-requires-5
     returns-6)
