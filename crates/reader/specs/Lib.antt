@@ -1,3 +1,5 @@
 -- What reading a cartridge is.
 pub mod Walk
 pub mod Reading
+pub mod Counting
+pub mod Marks
