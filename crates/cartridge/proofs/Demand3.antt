@@ -36,8 +36,8 @@ damage key id recording was now d =
     record {
       kept = λ p h t. ap (λ (b : List ℕ). openBlock key id recording p b) (same-true (blockAt now p) (blockAt was p) (not-false (same (blockAt now p) (blockAt was p)) t));
       lost = λ p h t.
-        d p h (λ q.
-        false≢true (sym (not-true (same (blockAt now p) (blockAt was p)) t) ∙ subst (λ (y : List ℕ). same (blockAt now p) y ≡ true) q (same-refl (blockAt now p))));
+          d p h (λ q.
+          false≢true (sym (not-true (same (blockAt now p) (blockAt was p)) t) ∙ subst (λ (y : List ℕ). same (blockAt now p) y ≡ true) q (same-refl (blockAt now p))));
     }
 
 -- from what a chain leaves, however it came about
@@ -48,11 +48,12 @@ recovered : (key : List ℕ) (id recording c : ℕ) (s : WriterState) (was : Lis
 unfolding capacityOf
 recovered key id recording c s was is m k now l d =
     let x = survive (capacityOf now) (spoiled was now) (view key id recording was) (view key id recording now) is (m .sound) (rw k at (m .stands))
-      (rw (at, cap) at (m .blank)) (omega (arith, cap)) (damage key id recording was now d) in
+    (rw (at, cap) at (m .blank)) (omega (arith, cap)) (damage key id recording was now d) in
     record { gives = x .0; short = x .1 }
   where
     at : s .position ≡ sizes is + 1
     at = rw k at (m .place)
+
     cap : c ≡ capacityOf now
     cap = omega arith
 
@@ -60,9 +61,9 @@ recovered key id recording c s was is m k now l d =
 -- block has its bytes or does not open at its place
 pub demand-3 : (key : List ℕ) (id recording e : ℕ) (fresh : List ℕ) (calls : List Call) → AllCallBytes calls → start id recording e fresh .reply ≡ Plain
     → let s : WriterState = start id recording e fresh .state in
-      let z : List ℕ = start id recording e fresh .image in
-      let was : List ℕ = chain key s z calls .image in
-      chain key s z calls .state .closed ≡ true
+    let z : List ℕ = start id recording e fresh .image in
+    let was : List ℕ = chain key s z calls .image in
+    chain key s z calls .state .closed ≡ true
     → (now : List ℕ) → length now ≡ length was
     → ((p : ℕ) → p < capacityOf now → blockAt now p ≢ blockAt was p → Shut (view key id recording now p))
     → Recovered key id recording was now (accepted key s z calls)
@@ -90,9 +91,9 @@ nothing-spoiled was p = rw (same-refl (blockAt was p))
 
 pub nothing-lost : (key : List ℕ) (id recording e : ℕ) (fresh : List ℕ) (calls : List Call) → AllCallBytes calls → start id recording e fresh .reply ≡ Plain
     → let s : WriterState = start id recording e fresh .state in
-      let z : List ℕ = start id recording e fresh .image in
-      let was : List ℕ = chain key s z calls .image in
-      chain key s z calls .state .closed ≡ true
+    let z : List ℕ = start id recording e fresh .image in
+    let was : List ℕ = chain key s z calls .image in
+    chain key s z calls .state .closed ≡ true
     → handed (walk (view key id recording was) (capacityOf was)) ≡ placed 0 (accepted key s z calls)
 nothing-lost key id recording e fresh calls b h k =
     let w = chain key (start id recording e fresh .state) (start id recording e fresh .image) calls .image in

@@ -87,7 +87,7 @@ seen-whole P sp v s (b ∷ bs) h w = go (sp s) (h .0) w (λ k. seen-whole P sp v
     go false h w k = (h, k w)
 
 pub gather-whole : (xs : List (List ℕ)) (x : List ℕ) (room : ℕ) (v : View) (q : ℕ) (acc : List ℕ) → Stands v q (following (x ∷ xs)) → length (x ∷ xs) ≤ room
-  → gather room v q acc ≡ answer (Record (acc ++ flat (x ∷ xs))) (q + length (x ∷ xs))
+    → gather room v q acc ≡ answer (Record (acc ++ flat (x ∷ xs))) (q + length (x ∷ xs))
 unfolding blocksFor pieces following recorded gather readAt
 gather-whole xs x zero v q acc s h = absurd (omega arith)
 gather-whole [] x (suc room) v q acc s h = rw (s .0, append-nil, add-one)
@@ -99,7 +99,7 @@ outcome (rec b) = Record b
 outcome fmark = Mark
 
 pub read-pieces : (x : List ℕ) (xs : List (List ℕ)) (v : View) (c s : ℕ) → Stands v s (recorded (x ∷ xs)) → s + length (x ∷ xs) ≤ c → length (x ∷ xs) ≤ 64
-  → readAt v c s ≡ answer (Record (flat (x ∷ xs))) (s + length (x ∷ xs))
+    → readAt v c s ≡ answer (Record (flat (x ∷ xs))) (s + length (x ∷ xs))
 unfolding blocksFor pieces following recorded gather readAt
 read-pieces x [] v c s k h l = rw (k .0, append-nil, add-one)
 read-pieces x (y ∷ ys) v c s k h l = rw (k .0, gather-whole ys y (min (c - suc s) 63) v (suc s) x (k .1) (omega arith)) (simp (suc-add, add-suc))
@@ -186,7 +186,7 @@ shut-noEod (head x) h = absurd h
 
 -- the record's read from its sepick block on
 gather-broken : (xs : List (List ℕ)) (x : List ℕ) (room : ℕ) (sp : ℕ → Bool) (v : View) (p q : ℕ) (acc : List ℕ) → Seen Shut sp v q (following (x ∷ xs))
-  → whole sp q (length (x ∷ xs)) ≡ false → given p (gather room v q acc .told) ≡ []
+    → whole sp q (length (x ∷ xs)) ≡ false → given p (gather room v q acc .told) ≡ []
 unfolding blocksFor pieces following recorded gather readAt
 gather-broken xs x zero sp v p q acc s w = refl
 gather-broken [] x (suc room) sp v p q acc s w = go (sp q) (s .0) w
@@ -197,7 +197,7 @@ gather-broken [] x (suc room) sp v p q acc s w = go (sp q) (s .0) w
 gather-broken (y ∷ ys) x (suc room) sp v p q acc s w = go (sp q) (s .0) w (λ k. gather-broken ys y room sp v p (suc q) (acc ++ x) (s .1) k)
   where
     go : (t : Bool) → Now Shut t (v q) (more false x) → pick t false (whole sp (suc q) (length (y ∷ ys))) ≡ false
-      → (whole sp (suc q) (length (y ∷ ys)) ≡ false → given p (gather room v (suc q) (acc ++ x) .told) ≡ []) → given p (gather (suc room) v q acc .told) ≡ []
+        → (whole sp (suc q) (length (y ∷ ys)) ≡ false → given p (gather room v (suc q) (acc ++ x) .told) ≡ []) → given p (gather (suc room) v q acc .told) ≡ []
     go true h w k = shut-inside (v q) p q acc (λ a. gather room v (suc q) a) h
     go false h w k = rw h (k w)
 
@@ -210,6 +210,7 @@ read-broken (rec b) sp v c s d k w =
     at xs x true h k w = shut-between (v s) v c s h
     at [] x false h k w = absurd (true≢false w)
     at (y ∷ ys) x false h k w = rw h (gather-broken ys y (min (c - suc s) 63) sp v s (suc s) x k w)
+
     go : (xs : List (List ℕ)) → 1 ≤ length xs → Seen Shut sp v s (recorded xs) → whole sp s (length xs) ≡ false → given s (readAt v c s .told) ≡ []
     go [] o k w = absurd (omega arith)
     go (x ∷ xs) o k w = at xs x (sp s) (k .0) (k .1) w
@@ -229,6 +230,7 @@ item-noEod P n (rec b) sp v s d k = go (pieces (size (rec b)) b) (cutting b d .s
     either : (t : Bool) (x : List ℕ) (l : Bool) → Now P t (v s) (head (first l x)) → isEod (v s) ≡ false
     either true x l h = n (v s) h
     either false x l h = rw h
+
     go : (xs : List (List ℕ)) → 1 ≤ length xs → Seen P sp v s (recorded xs) → isEod (v s) ≡ false
     go [] o k = absurd (omega arith)
     go (x ∷ xs) o k = either (sp s) x (isNil xs) (k .0)
@@ -267,12 +269,12 @@ given-item (rec b) s = refl
 given-item fmark s = refl
 
 pub scan-item : (i : Item) (sp : ℕ → Bool) (v : View) (c s m n : ℕ) → Sound i → Seen Shut sp v s (blocks i) → s + m ≡ c → s + size i + n ≡ c
-  → scan m v c s ≡ pick (whole sp s (size i)) (hand s i ∷ []) [] ++ scan n v c (s + size i)
+    → scan m v c s ≡ pick (whole sp s (size i)) (hand s i ∷ []) [] ++ scan n v c (s + size i)
 unfolding blocksFor pieces following recorded gather readAt
 scan-item i sp v c s zero n d k hm hn = let z = size-pos i d in absurd (omega arith)
 scan-item i sp v c s (suc m) n d k hm hn =
     rw (read-noEnd v c s (item-noEod Shut shut-noEod i sp v s d k), scan-gap (item-gap i sp v s d k) c m n (omega arith) hn)
-      (ap (λ (l : List Handed). l ++ scan n v c (s + size i)) (go (whole sp s (size i)) refl))
+    (ap (λ (l : List Handed). l ++ scan n v c (s + size i)) (go (whole sp s (size i)) refl))
   where
     go : (t : Bool) → whole sp s (size i) ≡ t → given s (readAt v c s .told) ≡ pick t (hand s i ∷ []) []
     go true e = rw (read-whole i v c s d (seen-whole Shut sp v s (blocks i) k (rw (length-blocks i) e)) (omega arith)) (given-item i s)
@@ -305,13 +307,14 @@ abbrev pub closed : List Item → List Content
 closed is = layout is ++ (head eod ∷ [])
 
 pub scan-closed : (is : List Item) (sp : ℕ → Bool) (v : View) (c s n : ℕ) → AllSound is → Seen Shut sp v s (closed is) → Blank v (s + sizes is + 1) c → s + n ≡ c → sizes is + 1 ≤ n
-  → scan n v c s ≡ intact sp s is
+    → scan n v c s ≡ intact sp s is
 unfolding blocksFor pieces following recorded gather readAt
 scan-closed [] sp v c s zero d k b h e = refl
 scan-closed [] sp v c s (suc n) d k b h e = go (sp s) (k .0)
   where
     rest : Blank v (suc s) c
     rest = rw (add-zero, add-one) at b
+
     go : (t : Bool) → Now Shut t (v s) (head eod) → scan (suc n) v c s ≡ []
     go true k = quiet-scan v c s n (shut-quiet (v s) k) ∙ scan-blank n v c (suc s) rest (omega arith)
     go false k = rw k

@@ -79,15 +79,15 @@ as-seen v s (b ∷ bs) h = (h .0, as-seen v (suc s) bs (h .1))
 
 -- blocks laid behind others stand there, and what was before and after still stands
 lay-on : (key : List ℕ) (n r : ℕ) (img : List ℕ) (c : ℕ) (xs bs : List Content) → length img ≡ 512 * c → c ≤ 128 → length xs + length bs ≤ c → AllLawful (length xs) bs
-  → Stands (view key n r img) 0 xs → Stands (view key n r (lay key n r img (length xs) bs)) 0 (xs ++ bs)
+    → Stands (view key n r img) 0 xs → Stands (view key n r (lay key n r img (length xs) bs)) 0 (xs ++ bs)
 unfolding blocksFor pieces following recorded view
 lay-on key n r img c xs bs hl hc hr a h =
     stands-join (view key n r (lay key n r img (length xs) bs)) 0 xs bs
-      (stands-ext (view key n r img) (view key n r (lay key n r img (length xs) bs)) 0 xs h (λ q i j. ap (λ (b : List ℕ). openBlock key n r q b) (lay-else key n r bs img (length xs) q (omega arith) (inl (omega arith)))))
-      (rw zero-add (as-seen (view key n r (lay key n r img (length xs) bs)) (length xs) bs (lay-stands key n r bs img (length xs) (omega arith) (omega arith) a)))
+    (stands-ext (view key n r img) (view key n r (lay key n r img (length xs) bs)) 0 xs h (λ q i j. ap (λ (b : List ℕ). openBlock key n r q b) (lay-else key n r bs img (length xs) q (omega arith) (inl (omega arith)))))
+    (rw zero-add (as-seen (view key n r (lay key n r img (length xs) bs)) (length xs) bs (lay-stands key n r bs img (length xs) (omega arith) (omega arith) a)))
 
 lay-blank : (key : List ℕ) (n r : ℕ) (img : List ℕ) (c p : ℕ) (bs : List Content) → length img ≡ 512 * c → p + length bs ≤ c
-  → Blank (view key n r img) p c → Blank (view key n r (lay key n r img p bs)) (p + length bs) c
+    → Blank (view key n r img) p c → Blank (view key n r (lay key n r img p bs)) (p + length bs) c
 unfolding Blank blocksFor pieces following recorded view
 lay-blank key n r img c p bs hl hr k q a b =
     subst Shut (ap (λ (b : List ℕ). openBlock key n r q b) (sym (lay-else key n r bs img p q (omega arith) (inr a)))) (k q (omega arith) b)
@@ -147,32 +147,46 @@ module _ (key : List ℕ) (n r c : ℕ) (s : WriterState) (img : List ℕ) (is :
   unfolding blocksFor pieces following recorded view
   stands-laid bs h a =
       rw (m .named, m .numbered, spot-layout)
-        (lay-on key n r img c (layout is) bs (m .sized) (m .small) (omega (arith, spot-layout)) (rw spot-layout at a) (rw (o, append-nil) at (m .stands)))
+      (lay-on key n r img c (layout is) bs (m .sized) (m .small) (omega (arith, spot-layout)) (rw spot-layout at a) (rw (o, append-nil) at (m .stands)))
 
   blank-laid : (bs : List Content) → s .position + length bs ≤ c → Blank (view key n r (lay key (s .id) (s .recording) img (s .position) bs)) (s .position + length bs) c
   unfolding blocksFor pieces following recorded view
   blank-laid bs h = rw (m .named, m .numbered) (lay-blank key n r img c (s .position) bs (m .sized) h (m .blank))
 
   made-item : (i : Item) → Sound i → ItemBytes i → s .position + size i ≤ s .capacity - 1
-    → Made key n r c (moved s (s .position + size i) false) (lay key (s .id) (s .recording) img (s .position) (blocks i)) (is ++ (i ∷ []))
+      → Made key n r c (moved s (s .position + size i) false) (lay key (s .id) (s .recording) img (s .position) (blocks i)) (is ++ (i ∷ []))
   unfolding blocksFor pieces following recorded view
   made-item i d b h = record {
-      named = m .named; numbered = m .numbered; wide = m .wide; small = m .small; large = m .large; zoned = m .zoned;
-      sized = length-laid (blocks i) (rw length-blocks (omega arith));
-      sound = sound-snoc is i (m .sound) d;
-      place = rw sizes-snoc (omega (arith, spot));
-      room = rw sizes-snoc (omega (arith, spot));
-      stands = rw (layout-snoc, append-nil) (stands-laid (blocks i) (rw length-blocks (omega arith)) (lawful-blocks i (s .position) d b));
-      blank = rw length-blocks at (blank-laid (blocks i) (rw length-blocks (omega arith))) }
+    named = m .named;
+    numbered = m .numbered;
+    wide = m .wide;
+    small = m .small;
+    large = m .large;
+    zoned = m .zoned;
+    sized = length-laid (blocks i) (rw length-blocks (omega arith));
+    sound = sound-snoc is i (m .sound) d;
+    place = rw sizes-snoc (omega (arith, spot));
+    room = rw sizes-snoc (omega (arith, spot));
+    stands = rw (layout-snoc, append-nil) (stands-laid (blocks i) (rw length-blocks (omega arith)) (lawful-blocks i (s .position) d b));
+    blank = rw length-blocks at (blank-laid (blocks i) (rw length-blocks (omega arith)));
+  }
 
   made-close : Made key n r c (moved s (s .position + 1) true) (lay key (s .id) (s .recording) img (s .position) (head eod ∷ [])) is
   unfolding blocksFor pieces following recorded view
   made-close = record {
-      named = m .named; numbered = m .numbered; wide = m .wide; small = m .small; large = m .large; zoned = m .zoned; sound = m .sound; room = m .room;
-      sized = length-laid (head eod ∷ []) (omega (arith, spot));
-      place = omega (arith, spot);
-      stands = stands-laid (head eod ∷ []) (omega (arith, spot)) (tt, tt);
-      blank = blank-laid (head eod ∷ []) (omega (arith, spot)) }
+    named = m .named;
+    numbered = m .numbered;
+    wide = m .wide;
+    small = m .small;
+    large = m .large;
+    zoned = m .zoned;
+    sound = m .sound;
+    room = m .room;
+    sized = length-laid (head eod ∷ []) (omega (arith, spot));
+    place = omega (arith, spot);
+    stands = stands-laid (head eod ∷ []) (omega (arith, spot)) (tt, tt);
+    blank = blank-laid (head eod ∷ []) (omega (arith, spot));
+  }
 
 -- ---- a call
 sound-of : (i : Item) → lengthOk i ≡ true → Sound i
@@ -242,11 +256,16 @@ made-start key n r e img h = go (imageOk img) (zoneOk (capacityOf img) e) refl r
         let w = whole img f in
         let y = zoned (capacityOf img) e g in
         record {
-          named = refl; numbered = refl; wide = refl; sound = tt; place = refl;
+          named = refl;
+          numbered = refl;
+          wide = refl;
+          sound = tt;
+          place = refl;
           sized = length-replicate (length img) 0 ∙ w .blocks;
           small = w .most;
           large = w .least;
           zoned = (y .low, let k = y .high in omega arith);
           room = let k = w .least in omega arith;
           stands = tt;
-          blank = zeros-blank key n r (capacityOf img) (length img) (w .blocks) }
+          blank = zeros-blank key n r (capacityOf img) (length img) (w .blocks);
+        }

@@ -39,6 +39,7 @@ spoiled-blank c sp v w s d k p a b = go (sp p) refl
 
 pub survive : (c : ℕ) (sp : ℕ → Bool) (v w : View) (is : List Item) → AllSound is → Stands v 0 (closed is) → Blank v (sizes is + 1) c → sizes is + 1 ≤ c → Spoiled Shut c sp v w
     → (handed (walk w c) ≡ intact sp 0 is) × (length (walk w c) ≤ c)
-survive c sp v w is d k b e x =
-    ( walk-scan w c ∙ scan-closed is sp w c 0 c d (spoiled-seen Shut c sp v w 0 (closed is) x k (omega (arith, length-closed is))) (rw zero-add (spoiled-blank c sp v w (sizes is + 1) x b)) (omega arith) e
-    , walk-length w c)
+survive c sp v w is d k b e x = (
+  walk-scan w c ∙ scan-closed is sp w c 0 c d (spoiled-seen Shut c sp v w 0 (closed is) x k (omega (arith, length-closed is))) (rw zero-add (spoiled-blank c sp v w (sizes is + 1) x b)) (omega arith) e,
+  walk-length w c,
+)

@@ -44,9 +44,9 @@ walk-closed (i ∷ is) v c s (suc n) d k h l =
 
 pub whole-walk : (key : List ℕ) (id recording e : ℕ) (fresh : List ℕ) (calls : List Call) → AllCallBytes calls → start id recording e fresh .reply ≡ Plain
     → let s : WriterState = start id recording e fresh .state in
-      let z : List ℕ = start id recording e fresh .image in
-      let was : List ℕ = chain key s z calls .image in
-      chain key s z calls .state .closed ≡ true
+    let z : List ℕ = start id recording e fresh .image in
+    let was : List ℕ = chain key s z calls .image in
+    chain key s z calls .state .closed ≡ true
     → walk (view key id recording was) (capacityOf was) ≡ visits 0 (accepted key s z calls)
 unfolding walk capacityOf
 whole-walk key id recording e fresh calls b h k =

@@ -24,8 +24,14 @@ replyCode (Refused n) = 2
 abbrev pub flatWrote : Wrote → NbWrote
 flatWrote w =
     record {
-      id = w .state .id; recording = w .state .recording; capacity = w .state .capacity; zone = w .state .zone; position = w .state .position;
-      closed = flag (w .state .closed); reply = replyCode (w .reply); number = numberOf (w .reply);
+      id = w .state .id;
+      recording = w .state .recording;
+      capacity = w .state .capacity;
+      zone = w .state .zone;
+      position = w .state .position;
+      closed = flag (w .state .closed);
+      reply = replyCode (w .reply);
+      number = numberOf (w .reply);
     }
 
 -- a state from its numbers; its closed flag is 0 or 1

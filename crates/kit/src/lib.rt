@@ -8,6 +8,14 @@ ghost use Rattle.block.specs.Content.{flag};
 ghost use Rattle.writer.specs.Items.{rec, fmark};
 ghost use Rattle.writer.specs.Writing.{numberOf, start, write, close};
 ghost use Rattle.kit.specs.FlatWriter.{flatWrote, replyCode, stateOf, flagNumber, given, FlatDid, FlatStarted};
+ghost use lib.ListN.{length};
+ghost use Rattle.reader.specs.Reading;
+ghost use Rattle.reader.specs.Reading.{lookNumber, spacing, reportOf};
+ghost use Rattle.kit.specs.FlatReader.{outcomeCode, dataOf, flatGot, FlatRead, recordPlace, lookedAt, flatSpaced, flatTally};
+use reader::Got;
+use reader::Outcome;
+use reader::Spaced;
+use reader::Tally;
 use writer::Reply;
 use writer::WriterState;
 use writer::Wrote;
@@ -160,37 +168,311 @@ pub extern "C" fn nb_start(id: u32, recording: u64, zone: usize, image: &mut [u8
 }
 
 #[no_mangle]
-pub extern "C" fn nb_record(id: u32, recording: u64, capacity: usize, zone: usize, position: usize, closed: u8, key: &[u8], bytes: &[u8], image: &mut [u8]) -> NbWrote
+pub extern "C" fn nb_record(
+    id: u32,
+    recording: u64,
+    capacity: usize,
+    zone: usize,
+    position: usize,
+    closed: u8,
+    key: &[u8],
+    bytes: &[u8],
+    image: &mut [u8],
+) -> NbWrote
     ensures { λ r. ⌜ FlatDid id recording capacity zone position closed (now (key .entry)) (now (image .entry)) (write (stateOf id recording capacity zone position closed) (now (key .entry)) (now (image .entry)) (rec (now (bytes .entry)))) r (now (image .exit)) ⌝ }
 {
     if 1 < closed {
         let number = flag_number(key, image);
-        return NbWrote { id, recording, capacity, zone, position, closed, reply: 2, number };
+        return NbWrote {
+            id,
+            recording,
+            capacity,
+            zone,
+            position,
+            closed,
+            reply: 2,
+            number,
+        };
     }
-    let state = WriterState { id, recording, capacity, zone, position, closed: closed == 1 };
+    let state = WriterState {
+        id,
+        recording,
+        capacity,
+        zone,
+        position,
+        closed: closed == 1,
+    };
     flat(state.record(key, bytes, image))
 }
 
 #[no_mangle]
-pub extern "C" fn nb_mark(id: u32, recording: u64, capacity: usize, zone: usize, position: usize, closed: u8, key: &[u8], image: &mut [u8]) -> NbWrote
+pub extern "C" fn nb_mark(
+    id: u32,
+    recording: u64,
+    capacity: usize,
+    zone: usize,
+    position: usize,
+    closed: u8,
+    key: &[u8],
+    image: &mut [u8],
+) -> NbWrote
     ensures { λ r. ⌜ FlatDid id recording capacity zone position closed (now (key .entry)) (now (image .entry)) (write (stateOf id recording capacity zone position closed) (now (key .entry)) (now (image .entry)) fmark) r (now (image .exit)) ⌝ }
 {
     if 1 < closed {
         let number = flag_number(key, image);
-        return NbWrote { id, recording, capacity, zone, position, closed, reply: 2, number };
+        return NbWrote {
+            id,
+            recording,
+            capacity,
+            zone,
+            position,
+            closed,
+            reply: 2,
+            number,
+        };
     }
-    let state = WriterState { id, recording, capacity, zone, position, closed: closed == 1 };
+    let state = WriterState {
+        id,
+        recording,
+        capacity,
+        zone,
+        position,
+        closed: closed == 1,
+    };
     flat(state.mark(key, image))
 }
 
 #[no_mangle]
-pub extern "C" fn nb_close(id: u32, recording: u64, capacity: usize, zone: usize, position: usize, closed: u8, key: &[u8], image: &mut [u8]) -> NbWrote
+pub extern "C" fn nb_close(
+    id: u32,
+    recording: u64,
+    capacity: usize,
+    zone: usize,
+    position: usize,
+    closed: u8,
+    key: &[u8],
+    image: &mut [u8],
+) -> NbWrote
     ensures { λ r. ⌜ FlatDid id recording capacity zone position closed (now (key .entry)) (now (image .entry)) (close (stateOf id recording capacity zone position closed) (now (key .entry)) (now (image .entry))) r (now (image .exit)) ⌝ }
 {
     if 1 < closed {
         let number = flag_number(key, image);
-        return NbWrote { id, recording, capacity, zone, position, closed, reply: 2, number };
+        return NbWrote {
+            id,
+            recording,
+            capacity,
+            zone,
+            position,
+            closed,
+            reply: 2,
+            number,
+        };
     }
-    let state = WriterState { id, recording, capacity, zone, position, closed: closed == 1 };
+    let state = WriterState {
+        id,
+        recording,
+        capacity,
+        zone,
+        position,
+        closed: closed == 1,
+    };
     flat(state.close(key, image))
+}
+
+// ---- The reader.
+#[repr(C)]
+pub struct NbGot {
+    pub outcome: u8,
+    pub number: u8,
+    pub value: usize,
+    pub next: usize,
+}
+
+#[repr(C)]
+pub struct NbPart {
+    pub offset: usize,
+    pub length: usize,
+}
+
+#[repr(C)]
+pub struct NbSpaced {
+    pub kind: u8,
+    pub number: u8,
+    pub position: usize,
+    pub marks: usize,
+}
+
+#[repr(C)]
+pub struct NbTally {
+    pub number: u8,
+    pub records: usize,
+    pub marks: usize,
+    pub ends: usize,
+    pub bads: usize,
+    pub strays: usize,
+    pub cuts: usize,
+}
+
+fn outcome_code(outcome: Outcome) -> u8
+    ensures { λ r. ⌜ r ≡ outcomeCode outcome ⌝ }
+{
+    match outcome {
+        Outcome::Record(_) => 0,
+        Outcome::Mark => 1,
+        Outcome::End => 2,
+        Outcome::Bad => 3,
+        Outcome::Stray => 4,
+        Outcome::Cut(_) => 5,
+        Outcome::Refused(_) => 6,
+    }
+}
+
+fn outcome_number(outcome: Outcome) -> u8
+    ensures { λ r. ⌜ r ≡ Reading.numberOf outcome ⌝ }
+{
+    match outcome {
+        Outcome::Record(_) => 0,
+        Outcome::Mark => 0,
+        Outcome::End => 0,
+        Outcome::Bad => 0,
+        Outcome::Stray => 0,
+        Outcome::Cut(_) => 0,
+        Outcome::Refused(n) => n,
+    }
+}
+
+fn outcome_data(outcome: Outcome) -> usize
+    ensures { λ r. ⌜ r ≡ dataOf outcome ⌝ }
+{
+    match outcome {
+        Outcome::Record(n) => n,
+        Outcome::Mark => 0,
+        Outcome::End => 0,
+        Outcome::Bad => 0,
+        Outcome::Stray => 0,
+        Outcome::Cut(q) => q,
+        Outcome::Refused(_) => 0,
+    }
+}
+
+fn flat_got(got: Got) -> NbGot
+    ensures { λ r. ⌜ r ≡ flatGot got ⌝ }
+{
+    let outcome = got.outcome;
+    NbGot {
+        outcome: outcome_code(outcome),
+        number: outcome_number(outcome),
+        value: outcome_data(outcome),
+        next: got.next,
+    }
+}
+
+fn flat_spaced(spaced: Spaced) -> NbSpaced
+    ensures { λ r. ⌜ r ≡ flatSpaced spaced ⌝ }
+{
+    match spaced {
+        Spaced::At(position) => NbSpaced {
+            kind: 0,
+            number: 0,
+            position,
+            marks: 0,
+        },
+        Spaced::Short(marks, position) => NbSpaced {
+            kind: 1,
+            number: 0,
+            position,
+            marks,
+        },
+        Spaced::Refused(number, position) => NbSpaced {
+            kind: 2,
+            number,
+            position,
+            marks: 0,
+        },
+    }
+}
+
+fn flat_tally(tally: Tally) -> NbTally
+    ensures { λ r. ⌜ r ≡ flatTally tally ⌝ }
+{
+    NbTally {
+        number: tally.number,
+        records: tally.records,
+        marks: tally.marks,
+        ends: tally.ends,
+        bads: tally.bads,
+        strays: tally.strays,
+        cuts: tally.cuts,
+    }
+}
+
+#[no_mangle]
+pub extern "C" fn nb_read(
+    key: &[u8],
+    id: u32,
+    recording: u64,
+    image: &[u8],
+    p: usize,
+    buffer: &mut [u8],
+) -> NbGot
+    ensures { λ r. ⌜ FlatRead (now (key .entry)) id recording (now (image .entry)) p (now (buffer .entry)) r (now (buffer .exit)) ⌝ }
+{
+    flat_got(reader::read(key, id, recording, image, p, buffer))
+}
+
+// A returned part can't cross: its place and length do.
+#[no_mangle]
+pub extern "C" fn nb_record_part(buffer: &[u8], length: usize) -> NbPart
+    ensures { λ r. ⌜ r ≡ recordPlace (now (buffer .entry)) length ⌝ }
+{
+    let part = reader::record_part(buffer, length);
+    NbPart {
+        offset: 0,
+        length: part.len(),
+    }
+}
+
+#[no_mangle]
+pub extern "C" fn nb_look_number(image: &[u8], p: usize) -> u8
+    ensures { λ r. ⌜ r ≡ lookNumber (now (image .entry)) p ⌝ }
+{
+    reader::look_number(image, p)
+}
+
+#[no_mangle]
+pub extern "C" fn nb_look(image: &[u8], p: usize) -> NbPart
+    ensures { λ r. ⌜ r ≡ lookedAt (now (image .entry)) p ⌝ }
+{
+    let part = reader::look(image, p);
+    if reader::look_number(image, p) == 0 {
+        return NbPart {
+            offset: 512 * p,
+            length: part.len(),
+        };
+    }
+    NbPart {
+        offset: 0,
+        length: part.len(),
+    }
+}
+
+#[no_mangle]
+pub extern "C" fn nb_space(
+    key: &[u8],
+    id: u32,
+    recording: u64,
+    image: &[u8],
+    p: usize,
+    n: usize,
+) -> NbSpaced
+    ensures { λ r. ⌜ r ≡ flatSpaced (spacing (now (key .entry)) id recording (now (image .entry)) p n) ⌝ }
+{
+    flat_spaced(reader::space(key, id, recording, image, p, n))
+}
+
+#[no_mangle]
+pub extern "C" fn nb_report(key: &[u8], id: u32, recording: u64, image: &[u8]) -> NbTally
+    ensures { λ r. ⌜ r ≡ flatTally (reportOf (now (key .entry)) id recording (now (image .entry))) ⌝ }
+{
+    flat_tally(reader::report(key, id, recording, image))
 }

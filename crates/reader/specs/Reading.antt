@@ -61,11 +61,19 @@ gotOf a = record { outcome = outcomeOf (a .told); next = a .next }
 unfoldable pub filled : Told → List ℕ
 filled t = recordOf t ++ replicate (31232 - length (recordOf t)) 0
 
+-- the answer, and what stands in the buffer
+abbrev pub readGives : List ℕ → ℕ → ℕ → List ℕ → ℕ → ℕ → Got
+readGives key id recording image p room =
+    pick (eqb (readNumber key image p room) 0) (gotOf (readAnswer key id recording image p))
+    (record { outcome = o.Refused (readNumber key image p room); next = p })
+
+abbrev pub readLeaves : List ℕ → ℕ → ℕ → List ℕ → ℕ → List ℕ → List ℕ
+readLeaves key id recording image p buffer =
+    pick (eqb (readNumber key image p (length buffer)) 0) (splice buffer 0 (filled (readAnswer key id recording image p .told))) buffer
+
 pub record Read (key : List ℕ) (id recording : ℕ) (image : List ℕ) (p : ℕ) (buffer : List ℕ) (r : Got) (buffer′ : List ℕ) : Type 0 where
-  pub says : r ≡ pick (eqb (readNumber key image p (length buffer)) 0) (gotOf (readAnswer key id recording image p))
-      (record { outcome = o.Refused (readNumber key image p (length buffer)); next = p })
-  pub leaves : buffer′ ≡ pick (eqb (readNumber key image p (length buffer)) 0)
-      (splice buffer 0 (filled (readAnswer key id recording image p .told))) buffer
+  pub says : r ≡ readGives key id recording image p (length buffer)
+  pub leaves : buffer′ ≡ readLeaves key id recording image p buffer
 
 -- ---- the record's part: the front part of the lent buffer; a length beyond it gives the empty part
 unfoldable pub partOf : List ℕ → ℕ → List ℕ
