@@ -12,6 +12,9 @@ ghost use Rattle.reader.specs.Counting.{cutAt, restBy, turn, countedBy, 
 ghost use Rattle.reader.specs.Reading.{readNumber, gotOf, readAnswer, filled, Read, partOf, lookNumber, lookPart, lookPlace, spaceFrom, spacing, counted, reportOf};
 ghost use Rattle.reader.specs.Walk.{readAt, gather};
 
+// The blocks of the longest record.
+const LONGEST: usize = 64;
+
 pub enum Outcome {
     Record(usize),
     Mark,
@@ -104,7 +107,7 @@ fn read_rest(key: &[u8], id: u32, recording: u64, image: &[u8], p: usize, buffer
     ensures leaves { λ _. ⌜ now (buffer .exit) ≡ splice (now (buffer .entry)) 0 (filled (gather (min (capacityOf (now (image .entry)) - (p + 1)) 63) (view (now (key .entry)) id recording (now (image .entry))) (p + 1) (take 488 (now (buffer .entry))) .told)) ⌝ }
 {
     let c = image.len() / 512;
-    let end = if c < p + 64 { c } else { p + 64 };
+    let end = if c < p + LONGEST { c } else { p + LONGEST };
     let mut q = p + 1;
     while q < end {
         let at = (q - p) * 488;
@@ -238,7 +241,7 @@ fn answer_rest(
     requires { ⌜ (length (now key) ≡ 24) × ((p < c) × ((c * 512 ≤ length (now image)) × ((c ≤ 128) × (used ≤ 488)))) ⌝ }
     ensures { λ r. ⌜ r ≡ restBy (min (c - (p + 1)) 63) (view (now (key .entry)) id recording (now (image .entry))) (p + 1) used ⌝ }
 {
-    let end = if c < p + 64 { c } else { p + 64 };
+    let end = if c < p + LONGEST { c } else { p + LONGEST };
     let mut held = used;
     let mut q = p + 1;
     while q < end {
@@ -447,7 +450,7 @@ fn inside(
     ensures { λ r. ⌜ ((f : ℕ) (b : List ℕ) → c - q ≤ f → r ≡ after (gather (min c (p + 64) - q) (view (now (key .entry)) id recording (now (image .entry))) q b) t (countOn f (view (now (key .entry)) id recording (now (image .entry))) c)) ⌝ }
 {
     let u = add_one(t, Outcome::Cut(q));
-    let end = if c < p + 64 { c } else { p + 64 };
+    let end = if c < p + LONGEST { c } else { p + LONGEST };
     if end <= q {
         return between(key, id, recording, image, c, q, u);
     }
