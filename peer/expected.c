@@ -5,6 +5,7 @@
 #include "edges.h"
 #include "rehearsal.h"
 #include "vectors.h"
+#include "walk.h"
 
 static const struct {
     const char *name;
@@ -14,6 +15,9 @@ static const struct {
     {"vectors.stdout", vectors_stdout},
     {"rehearse.stdout", rehearsal_stdout},
     {"edges.stdout", edges_stdout},
+    {"walk.stdout", walk_stdout},
+    {"walk.data/reel", walk_image},
+    {"walk.data/key", walk_key},
 };
 
 #define FILES (sizeof files / sizeof files[0])
