@@ -2,6 +2,9 @@
 -- Assumes nothing.
 use borrow.Author.Needs.{needs}
 use borrow.Author.Tests.{lt-ltb, le-ltb}
+use Prim.Native.Nat.{_/_}
+use native.Mathlib.Omega.{arith}
+use lib.ListN.{length}
 use Rattle.laws.proofs.ChooseLaws.{passed, failed}
 use Rattle.block.specs.Image.{imageOk, capacityOf}
 use Rattle.reader.specs.Reading.{lookNumber}
@@ -17,11 +20,15 @@ returns c = rw (failed (c .before .is-image .ensures) (c .if1 .taken))
 
 returns-2 : tie.Need-returns-2
 unfolding lookNumber imageOk capacityOf
-returns-2 c = rw (passed (c .before .before .is-image .ensures) (c .before .if1 .left), lt-ltb _ _ (c .if2 .taken))
+returns-2 c =
+    let a = c .before .before .before .before .args in
+    rw (passed (c .before .before .is-image .ensures) (c .before .if1 .left), lt-ltb (a .p) (length (a .image .now) / 512) (omega arith))
 
 returns-3 : tie.Need-returns-3
 unfolding lookNumber imageOk capacityOf
-returns-3 c = rw (passed (c .before .before .is-image .ensures) (c .before .if1 .left), le-ltb _ _ (c .if2 .left))
+returns-3 c =
+    let a = c .before .before .before .before .args in
+    rw (passed (c .before .before .is-image .ensures) (c .before .if1 .left), le-ltb (a .p) (length (a .image .now) / 512) (omega arith))
 
 pub look-number-spec : {M : Type 1} → statement M
 look-number-spec = tie.close (tie.spec is-image-requires returns returns-2 returns-3)

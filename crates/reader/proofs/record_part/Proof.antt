@@ -4,6 +4,7 @@ use borrow.Author.Needs.{needs}
 use borrow.Author.Tests.{le-leb, lt-leb}
 use mathlib.Core.Path.{refl, sym}
 use native.Mathlib.Omega.{arith}
+use lib.ListN.{length}
 use lib.Seq.{length-take-le}
 use Rattle.reader.specs.Reading.{partOf}
 use Rattle.reader.proofs.record_part.Statement.{statement}
@@ -17,11 +18,11 @@ slice-aggregate-result-2 c = search needs
 
 returns : tie.Need-returns
 unfolding partOf
-returns c = (simp (le-leb _ _ (c .before .if1 .taken)), refl)
+returns c = let a = c .before .before .args in (simp (le-leb (a .length) (length (a .buffer .now)) (omega arith)), refl)
 
 returns-2 : tie.Need-returns-2
 unfolding partOf
-returns-2 c = (simp (lt-leb _ _ (c .before .if1 .left)), refl)
+returns-2 c = let a = c .before .before .args in (simp (lt-leb (a .length) (length (a .buffer .now)) (omega arith)), refl)
 
 pub record-part-spec : {M : Type 1} → statement M
 record-part-spec = tie.close (tie.spec slice-aggregate-result slice-aggregate-result-2 returns returns-2)
