@@ -1,5 +1,5 @@
--- The walk: a read that is not End goes onward and stays on the cartridge; the walk from a place by its steps; no more reads than blocks.
--- All of it holds of every view: the walk is a function of the view and the capacity alone.
+-- The walk: a read that is not End goes onward and stays on the cartridge; the walk from a place by its steps; no more reads than blocks;
+-- what the c blocks show decides the walk. All of it holds of every view.
 -- Assumes nothing.
 use borrow.Author.Tests.{lt-ltb, le-ltb}
 use mathlib.Core.Path.{_≡_, refl, sym, ap, _∙_}
@@ -105,3 +105,50 @@ walkFrom-length (suc n) v c p =
 pub walk-length : (v : View) (c : ℕ) → length (walk v c) ≤ c
 unfolding walk
 walk-length v c = walkFrom-length c v c 0
+
+-- ---- a read and the walk look at the c blocks alone
+abbrev pub Same : View → View → ℕ → Type 0
+Same v w c = (q : ℕ) → q < c → v q ≡ w q
+
+inside-same : (x : Content) (q : ℕ) (b : List ℕ) (f g : List ℕ → Answer) → ((d : List ℕ) → f d ≡ g d) → inside x q b f ≡ inside x q b g
+inside-same shut q b f g e = refl
+inside-same (more true d) q b f g e = refl
+inside-same (more false d) q b f g e = e (b ++ d)
+inside-same (head d) q b f g e = refl
+
+module _ (v w : View) (c : ℕ) (same : Same v w c) where
+  gather-same : (room q : ℕ) (b : List ℕ) → q + room ≤ c → gather room v q b ≡ gather room w q b
+  unfolding gather
+  gather-same zero q b h = refl
+  gather-same (suc room) q b h =
+      ap (λ (x : Content). inside x q b (λ d. gather room v (suc q) d)) (same q (omega arith))
+      ∙ inside-same (w q) q b (λ d. gather room v (suc q) d) (λ d. gather room w (suc q) d) (λ d. gather-same room (suc q) d (omega arith))
+
+  between-same : (x : Content) (p : ℕ) → p < c → between x v c p ≡ between x w c p
+  between-same shut p h = refl
+  between-same (more l b) p h = refl
+  between-same (head (first true b)) p h = refl
+  between-same (head (first false b)) p h = gather-same (min (c - suc p) 63) (suc p) b (omega arith)
+  between-same (head mark) p h = refl
+  between-same (head eod) p h = refl
+
+  pub read-same : (p : ℕ) → p < c → readAt v c p ≡ readAt w c p
+  unfolding readAt
+  read-same p h = ap (λ (x : Content). between x v c p) (same p h) ∙ between-same (w p) p h
+
+  step-same : (n p : ℕ) → p < c → ((q : ℕ) → walkFrom n v c q ≡ walkFrom n w c q) → walkFrom (suc n) v c p ≡ walkFrom (suc n) w c p
+  unfolding walkFrom
+  step-same n p l k =
+      rw (lt-ltb p c l)
+      (ap (λ (a : Answer). visit p (a .told) ∷ pick (isEnd (a .told)) [] (walkFrom n v c (a .next))) (read-same p l)
+      ∙ ap (λ (r : List Visit). visit p (readAt w c p .told) ∷ pick (isEnd (readAt w c p .told)) [] r) (k (readAt w c p .next)))
+
+  pub walkFrom-same : (n p : ℕ) → walkFrom n v c p ≡ walkFrom n w c p
+  unfolding walkFrom
+  walkFrom-same zero p = refl
+  walkFrom-same (suc n) p =
+      ⊎-elim (λ l. step-same n p l (λ q. walkFrom-same n q)) (λ l. walkFrom-over (suc n) v c p l ∙ sym (walkFrom-over (suc n) w c p l)) (lt-or-ge p c)
+
+  pub walk-same : walk v c ≡ walk w c
+  unfolding walk
+  walk-same = walkFrom-same c 0
