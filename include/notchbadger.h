@@ -1,5 +1,5 @@
-/* notchbadger.h: the permutation, the block operations and the sealing of the
- * Notchbadger kit, for C99 and C++.
+/* notchbadger.h: the permutation, the block operations, the sealing and the
+ * cartridge image of the Notchbadger kit, for C99 and C++.
  *
  * What is proved about these calls is proved for memory that is as the caller
  * says it is. C can break that, and then no contract covers what happens:
@@ -11,11 +11,13 @@
  * of some byte of yours.
  *
  * The owner's duty: a nonce must never come twice under one key. The calls
- * cannot see it, and sealing two messages so loses the secrecy of both.
+ * cannot see it, and sealing two messages so loses the secrecy of both. What
+ * this asks of recording numbers stands at the writer.
  *
- * Every call returns a number: 0 when it was carried out, else the first cause
- * in the order given at the call. A refused call (2 or 9) leaves all lent
- * memory as it was. 7 leaves the receiving buffer all zero.
+ * A call returns a number, alone or in a struct: 0 when it was carried
+ * out, else the first cause in the order given at the call. A refused call
+ * (any cause but 7) leaves all lent memory as it was. 7 leaves the receiving
+ * buffer all zero. Those of the first eight calls:
  *   2  a key, nonce or receiving buffer of wrong length, a state that is not
  *      64 bytes, sealed bytes under 16
  *   7  the tag does not fit
@@ -110,6 +112,186 @@ uint8_t nb_open(const uint8_t *key, size_t key_len,
                 const uint8_t *data, size_t data_len,
                 const uint8_t *sealed, size_t sealed_len,
                 uint8_t *out, size_t out_len);
+
+/* The cartridge image: 4 to 128 blocks of 512 bytes, each with its own tag.
+ * The capacity c is the number of blocks; positions count blocks from 0. */
+#define NB_BLOCK_BYTES 512
+#define NB_BLOCK_PAYLOAD 488
+#define NB_IMAGE_FEWEST 4
+#define NB_IMAGE_MOST 128
+
+/* The longest record, of 64 blocks. */
+#define NB_RECORD_MAX 31232
+
+/* The writer. Its state is the first six fields of nb_wrote; it comes back from
+ * each call and is given to the next one, field by field. The library keeps
+ * none of it.
+ *
+ * The owner's duty: a recording number for each recording that the cartridge
+ * id never had before under this key, also where an image is started anew; and
+ * no call from a state that an accepted call has replaced. Going on from an
+ * old saved state seals other bytes under nonces already used, and no call can
+ * see that.
+ *
+ * Causes, beside 2 (the key's length):
+ *   1  an image that is not 4 to 128 whole blocks
+ *   3  a warning zone outside 1 to c - 1
+ *   4  a record of no bytes or of more than NB_RECORD_MAX
+ *   5  an item that does not fit before the last block, which is held for the
+ *      end of data
+ *   6  a recording that is closed
+ *   8  a state that is not lawful for the image: its capacity is not c, its
+ *      zone is outside 1 to c - 1, its position is above c - 1 while open, or
+ *      is 0 or above c when closed, or closed is neither 0 nor 1
+ * The id, the recording number and the bytes of the image are not looked at. */
+#define NB_WRONG_IMAGE 1
+#define NB_WRONG_ZONE 3
+#define NB_WRONG_RECORD 4
+#define NB_NO_ROOM 5
+#define NB_CLOSED 6
+#define NB_WRONG_STATE 8
+
+/* nb_wrote's reply. Only a record can be warned. */
+#define NB_PLAIN 0
+#define NB_WARNED 1
+#define NB_REFUSED 2
+
+typedef struct {
+    uint32_t id;
+    uint64_t recording;
+    size_t capacity;
+    size_t zone;     /* of the early warning */
+    size_t position; /* where the next item begins */
+    uint8_t closed;  /* 0 or 1 */
+    uint8_t reply;
+    uint8_t number; /* of a refusal, else 0 */
+} nb_wrote;
+
+/* Begins a recording: fills the image with zeros and gives an open state at
+ * position 0. 1, 3; refused, the state is all zeros but for closed, which is 1,
+ * and no image takes it (8). Writes the image, and only when not refused. */
+nb_wrote nb_start(uint32_t id, uint64_t recording, size_t zone,
+                  uint8_t *image, size_t image_len);
+
+/* Writes a record of 1 to NB_RECORD_MAX bytes at the position, in blocks of
+ * NB_BLOCK_PAYLOAD bytes, the last of which may be shorter. Warned exactly if
+ * the position afterwards is above capacity - zone. 1, 2, 8, 6, 4, 5; refused,
+ * the given state comes back. Writes its own blocks of the image, and only
+ * when not refused. */
+nb_wrote nb_record(uint32_t id, uint64_t recording, size_t capacity, size_t zone,
+                   size_t position, uint8_t closed,
+                   const uint8_t *key, size_t key_len,
+                   const uint8_t *bytes, size_t bytes_len,
+                   uint8_t *image, size_t image_len);
+
+/* Writes a file mark, one block, at the position. 1, 2, 8, 6, 5; refused, the
+ * given state comes back. Writes its own block of the image, and only when not
+ * refused. */
+nb_wrote nb_mark(uint32_t id, uint64_t recording, size_t capacity, size_t zone,
+                 size_t position, uint8_t closed,
+                 const uint8_t *key, size_t key_len,
+                 uint8_t *image, size_t image_len);
+
+/* Writes the end of data, one block, at the position and closes the recording;
+ * while it is open there is always room. 1, 2, 8, 6; refused, the given state
+ * comes back. Writes its own block of the image, and only when not refused. */
+nb_wrote nb_close(uint32_t id, uint64_t recording, size_t capacity, size_t zone,
+                  size_t position, uint8_t closed,
+                  const uint8_t *key, size_t key_len,
+                  uint8_t *image, size_t image_len);
+
+/* reader: begin */
+/* The reader. It takes any image: a block opens at p only when it was sealed
+ * under this key, id and recording number for place p and is lawful.
+ *
+ * Causes:
+ *   1  an image that is not 4 to 128 whole blocks
+ *   2  a key of wrong length; at nb_read also a buffer under NB_RECORD_MAX
+ *   8  a position of c or more
+ */
+#define NB_WRONG_POSITION 8
+
+/* nb_got's outcome. */
+#define NB_GOT_RECORD 0
+#define NB_GOT_MARK 1
+#define NB_GOT_END 2   /* of data */
+#define NB_GOT_BAD 3   /* the block does not open */
+#define NB_GOT_STRAY 4 /* a block from the middle of a record */
+#define NB_GOT_CUT 5   /* a record that breaks off */
+#define NB_GOT_REFUSED 6
+
+typedef struct {
+    uint8_t outcome;
+    uint8_t number; /* of a refusal, else 0 */
+    size_t data;    /* a record's length, the place of a cut, else 0 */
+    size_t next;    /* where to read on; may be c */
+} nb_got;
+
+/* A part of lent memory, counted from its front. */
+typedef struct {
+    size_t offset;
+    size_t length;
+} nb_part;
+
+/* nb_spaced's kind. */
+#define NB_SPACED_AT 0
+#define NB_SPACED_SHORT 1
+#define NB_SPACED_REFUSED 2
+
+typedef struct {
+    uint8_t kind;
+    uint8_t number; /* of a refusal, else 0 */
+    size_t position;
+    size_t marks; /* passed, where it fell short, else 0 */
+} nb_spaced;
+
+typedef struct {
+    uint8_t number; /* of a refusal, else 0 */
+    size_t records;
+    size_t marks;
+    size_t ends;
+    size_t bads;
+    size_t strays;
+    size_t cuts;
+} nb_tally;
+
+/* Reads at position p. Next is the block behind what was read; at the end of
+ * data it is p; after a cut it is the place of the cut, or the block behind
+ * it where the block there does not open. A record is cut where the image
+ * ends, after 64 blocks without its last, at a block that does not open and at
+ * one of another kind. 1, 2, 8; refused, next is p. Writes the first
+ * NB_RECORD_MAX bytes of the buffer, and only when not refused: a record and
+ * zeros behind it, or zeros alone. */
+nb_got nb_read(const uint8_t *key, size_t key_len, uint32_t id, uint64_t recording,
+               const uint8_t *image, size_t image_len, size_t p,
+               uint8_t *buffer, size_t buffer_len);
+
+/* The record that nb_read left in the buffer, by its length: the front part, or
+ * the empty part at the front where length is above buffer_len. No number.
+ * Writes nothing. */
+nb_part nb_record_part(const uint8_t *buffer, size_t buffer_len, size_t length);
+
+/* Block p as it stands in the image, unopened: its NB_BLOCK_BYTES bytes; where
+ * it is refused, the empty part at the front. nb_look_number tells why. Writes
+ * nothing. */
+nb_part nb_look(const uint8_t *image, size_t image_len, size_t p);
+
+/* The number of nb_look with the same arguments. 1, 8. Writes nothing. */
+uint8_t nb_look_number(const uint8_t *image, size_t image_len, size_t p);
+
+/* Reads on from position p past n file marks. At: the position behind the nth
+ * mark, which may be c; for n = 0 it is p, unread. Short: the marks passed, and
+ * the place of the end of data, or c where none came. 1, 2, 8; refused, the
+ * position is p. Writes nothing. */
+nb_spaced nb_space(const uint8_t *key, size_t key_len, uint32_t id, uint64_t recording,
+                   const uint8_t *image, size_t image_len, size_t p, size_t n);
+
+/* Counts the outcomes of the walk: the reads from 0 on, each at the next of
+ * the one before, up to the end of data or c. 1, 2; refused, all counts are
+ * zero. Writes nothing. */
+nb_tally nb_report(const uint8_t *key, size_t key_len, uint32_t id, uint64_t recording,
+                   const uint8_t *image, size_t image_len);
+/* reader: end */
 
 #ifdef __cplusplus
 }

@@ -5,19 +5,17 @@
 #include <inttypes.h>
 #include <stdbool.h>
 #include <stdio.h>
-#include <stdlib.h>
 #include <string.h>
 
 #include "blnk.h"
 #include "notchbadger.h"
 #include "pi.h"
+#include "random.h"
 #include "seal.h"
 
 #define DEFAULT_SEED 20150828u
 #define DEFAULT_CASES 10000u
-#define GUARD 64
-#define ROOM 65664 /* above every length that is drawn */
-#define STRIPS 5   /* the most buffers one call is lent */
+#define STRIPS 5 /* the most buffers one call is lent */
 
 static const char *const calls[] = {
     "permute", "permute_back", "put", "get", "enc", "dec", "seal", "open",
@@ -29,13 +27,8 @@ enum call { PERMUTE, PERMUTE_BACK, PUT, GET, ENC, DEC, SEAL, OPEN, CALLS };
 enum { STATE = 0, IN = 1, OUT = 2 };                         /* block operations */
 enum { KEY = 0, NONCE = 1, DATA = 2, TEXT = 3, RECEIVER = 4 }; /* seal, open */
 
-struct strip {
-    size_t length;
-    uint8_t peer[GUARD + ROOM + GUARD];
-    uint8_t kit[GUARD + ROOM + GUARD];
-};
-
 static struct strip strips[STRIPS];
+static const char *const names[STRIPS] = {"strip 0", "strip 1", "strip 2", "strip 3", "strip 4"};
 static struct {
     enum call call;
     uint8_t domain;
@@ -43,22 +36,6 @@ static struct {
     size_t pinned; /* 1 to 3: every length is the limit, less 2 and plus this */
     const char *sort;
 } now;
-static uint64_t reel;
-
-/* splitmix64 */
-static uint64_t draw(void)
-{
-    uint64_t z = reel += UINT64_C(0x9E3779B97F4A7C15);
-
-    z = (z ^ (z >> 30)) * UINT64_C(0xBF58476D1CE4E5B9);
-    z = (z ^ (z >> 27)) * UINT64_C(0x94D049BB133111EB);
-    return z ^ (z >> 31);
-}
-
-static size_t below(size_t n)
-{
-    return (size_t)(draw() % n);
-}
 
 /* The edges of the groups most of all, then short ones, long ones seldom, and
  * `limit`, the one before and the one past it in one of 500. A length past the
@@ -97,22 +74,9 @@ static size_t draw_near(size_t right)
     }
 }
 
-/* Whole words, since most of the time of a short case goes here. */
-static void record_noise(struct strip *strip)
-{
-    size_t n = GUARD + strip->length + GUARD;
-
-    for (size_t i = 0; i < n; i += 8) {
-        uint64_t word = draw();
-        for (size_t j = i; j < i + 8 && j < n; j++, word >>= 8)
-            strip->peer[j] = (uint8_t)word;
-    }
-}
-
 static void lend(int which, size_t length)
 {
-    strips[which].length = length;
-    record_noise(&strips[which]);
+    strip_noise(&strips[which], length);
 }
 
 static uint8_t draw_domain(void)
@@ -224,7 +188,7 @@ static void draw_case(uint64_t number)
     else
         draw_operation();
     for (int i = 0; i < STRIPS; i++)
-        memcpy(strips[i].kit, strips[i].peer, GUARD + strips[i].length + GUARD);
+        strip_copy(&strips[i]);
 }
 
 /* Pointer and length of a strip, as two arguments. */
@@ -268,23 +232,6 @@ static void print_case(uint64_t seed, uint64_t number)
     putchar('\n');
 }
 
-/* The first place where the two sides of a strip differ, counted from the
- * lent part's own front: below 0 and past its length are guard bytes. */
-static bool strip_differs(int which)
-{
-    const struct strip *strip = &strips[which];
-    size_t n = GUARD + strip->length + GUARD;
-
-    for (size_t i = 0; i < n; i++) {
-        if (strip->peer[i] == strip->kit[i])
-            continue;
-        printf("compare: strip %d, byte %ld: peer %02X, library %02X\n",
-               which, (long)i - GUARD, strip->peer[i], strip->kit[i]);
-        return true;
-    }
-    return false;
-}
-
 static bool agree(void)
 {
     uint8_t peer = run_peer();
@@ -294,29 +241,20 @@ static bool agree(void)
     if (!same)
         printf("compare: numbers: peer %u, library %u\n", peer, kit);
     for (int i = 0; i < STRIPS; i++)
-        if (strip_differs(i))
+        if (strip_differs(&strips[i], "compare", names[i]))
             same = false;
     return same;
-}
-
-static int argument(const char *text, uint64_t *number)
-{
-    char *end;
-
-    *number = strtoull(text, &end, 10);
-    return *text >= '0' && *text <= '9' && *end == '\0';
 }
 
 int main(int argc, char **argv)
 {
     uint64_t seed = DEFAULT_SEED, cases = DEFAULT_CASES;
 
-    if (argc > 3 || (argc > 1 && !argument(argv[1], &seed))
-        || (argc > 2 && !argument(argv[2], &cases))) {
+    if (!take_arguments(argc, argv, &seed, &cases)) {
         fputs("usage: compare [SEED [CASES]]\n", stderr);
         return 2;
     }
-    reel = seed;
+    reseed(seed);
     for (uint64_t i = 0; i < cases; i++) {
         draw_case(i);
         if (!agree()) {
