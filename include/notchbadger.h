@@ -200,7 +200,6 @@ nb_wrote nb_close(uint32_t id, uint64_t recording, size_t capacity, size_t zone,
                   const uint8_t *key, size_t key_len,
                   uint8_t *image, size_t image_len);
 
-/* reader: begin */
 /* The reader. It takes any image: a block opens at p only when it was sealed
  * under this key, id and recording number for place p and is lawful.
  *
@@ -291,7 +290,6 @@ nb_spaced nb_space(const uint8_t *key, size_t key_len, uint32_t id, uint64_t rec
  * zero. Writes nothing. */
 nb_tally nb_report(const uint8_t *key, size_t key_len, uint32_t id, uint64_t recording,
                    const uint8_t *image, size_t image_len);
-/* reader: end */
 
 #ifdef __cplusplus
 }

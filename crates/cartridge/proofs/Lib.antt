@@ -6,3 +6,4 @@ pub mod Made
 pub mod Demand3
 pub mod Cases
 pub mod Tail
+pub mod AtTheCode

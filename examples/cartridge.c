@@ -1,0 +1,52 @@
+/* Writes records until early warning, closes the cartridge, spoils a block and walks what is left.
+ *
+ *     cc -Iinclude examples/cartridge.c target/staticlib/libkit.a && ./a.out
+ */
+#include <stdio.h>
+#include <string.h>
+
+#include "notchbadger.h"
+
+#define BLOCKS 8
+#define ZONE 3
+
+/* A new recording number for each recording: no nonce may come twice under a key. */
+#define ID 1
+#define RECORDING 1
+
+static uint8_t image[BLOCKS * NB_BLOCK_BYTES], buffer[NB_RECORD_MAX];
+static const uint8_t key[NB_KEY_BYTES] = "192-bit Secret Key value";
+
+static nb_wrote write_record(nb_wrote s, const uint8_t *bytes, size_t n)
+{
+    return nb_record(s.id, s.recording, s.capacity, s.zone, s.position, s.closed, key, sizeof key, bytes, n, image, sizeof image);
+}
+
+static void walk(void)
+{
+    static const char *const names[] = {"record", "mark", "end", "bad", "stray", "cut"};
+    nb_got got = {0, 0, 0, 0};
+
+    do {
+        size_t p = got.next;
+        got = nb_read(key, sizeof key, ID, RECORDING, image, sizeof image, p, buffer, sizeof buffer);
+        printf("%u %s %u\n", (unsigned)p, names[got.outcome], (unsigned)got.data);
+    } while (got.outcome != NB_GOT_END && got.next < BLOCKS);
+}
+
+int main(void)
+{
+    uint8_t bytes[600];
+    nb_wrote s = nb_start(ID, RECORDING, ZONE, image, sizeof image);
+
+    memset(bytes, 0x5A, sizeof bytes);
+    do {
+        s = write_record(s, bytes, sizeof bytes);
+        printf("record at %u: %s\n", (unsigned)s.position, s.reply == NB_WARNED ? "warned" : "plain");
+    } while (s.reply == NB_PLAIN);
+    s = nb_close(s.id, s.recording, s.capacity, s.zone, s.position, s.closed, key, sizeof key, image, sizeof image);
+    printf("closed at %u\n", (unsigned)s.position);
+    image[2 * NB_BLOCK_BYTES + 40] ^= 1;
+    walk();
+    return 0;
+}

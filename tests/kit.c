@@ -1,0 +1,147 @@
+/* Links the static library by its header alone and calls every function, valid and refused; holds the header's constants against what the
+ * calls do. Prints what fails and exits 1, else one line and 0. What the calls should answer is 01's word, not the library's. */
+#include <stdio.h>
+#include <stdlib.h>
+#include <string.h>
+
+#include "notchbadger.h"
+
+static int faults;
+
+#define IS(what) ((what) ? (void)0 : (faults++, (void)printf("tests/kit.c:%d: %s\n", __LINE__, #what)))
+
+#define BLOCKS 8
+
+static uint8_t image[BLOCKS * NB_BLOCK_BYTES], buffer[NB_RECORD_MAX + 1];
+static const uint8_t key[NB_KEY_BYTES] = {1, 2, 3}, nonce[NB_NONCE_BYTES] = {4, 5};
+
+/* The paper's 1.3.1 and back, and a state of another length. */
+static void permutation(void)
+{
+    static const uint8_t front[4] = {0x3F, 0x72, 0xC2, 0x60};
+    uint8_t state[NB_STATE_BYTES] = {
+        0x77, 0x38, 0xE1, 0xB5, 0x41, 0xA0, 0x36, 0xEA, 0x45, 0x8D, 0x50, 0xF8, 0x0F, 0xA0, 0x1C, 0x44,
+        0x72, 0x88, 0xCE, 0x97, 0xD1, 0xA0, 0xDC, 0xF0, 0x16, 0x95, 0xFF, 0xD6, 0xE7, 0x1D, 0x09, 0x25,
+        0x33, 0xBE, 0x30, 0x9F, 0x01, 0x2A, 0x59, 0x09, 0x72, 0x91, 0x14, 0x59, 0x5F, 0x08, 0x6E, 0x76,
+        0x07, 0x18, 0xAF, 0xE3, 0x65, 0xBC, 0x09, 0xDE, 0xB6, 0xAF, 0xA1, 0x80, 0xBC, 0xEC, 0x2A, 0x98};
+
+    IS(nb_permute(state, NB_STATE_BYTES) == NB_DONE);
+    IS(memcmp(state, front, sizeof front) == 0);
+    IS(nb_permute_back(state, NB_STATE_BYTES) == NB_DONE && state[0] == 0x77 && state[63] == 0x98);
+    IS(nb_permute(state, NB_STATE_BYTES - 1) == NB_WRONG_LENGTH && state[0] == 0x77);
+    IS(nb_permute_back(state, 0) == NB_WRONG_LENGTH);
+}
+
+static void operations(void)
+{
+    uint8_t here[NB_STATE_BYTES] = {0}, there[NB_STATE_BYTES] = {0}, cipher[33], back[33], tag[NB_TAG_BYTES];
+    uint8_t *most = calloc(NB_OPERATION_MAX + 1, 1);
+
+    IS(nb_put(here, sizeof here, key, sizeof key, NB_DOMAIN_KEY) == NB_DONE);
+    IS(nb_put(there, sizeof there, key, sizeof key, NB_DOMAIN_KEY) == NB_DONE);
+    IS(nb_enc(here, sizeof here, buffer, 33, cipher, sizeof cipher, NB_DOMAIN_MESSAGE) == NB_DONE);
+    IS(nb_dec(there, sizeof there, cipher, sizeof cipher, back, sizeof back, NB_DOMAIN_MESSAGE) == NB_DONE);
+    IS(memcmp(here, there, sizeof here) == 0 && memcmp(back, buffer, sizeof back) == 0);
+    IS(nb_get(here, sizeof here, tag, sizeof tag, NB_DOMAIN_TAG) == NB_DONE && memcmp(tag, there, sizeof tag) == 0);
+    IS(nb_enc(here, sizeof here, buffer, 33, cipher, 32, 0) == NB_WRONG_LENGTH);
+    IS(nb_dec(here, 63, cipher, 33, back, 33, 0) == NB_WRONG_LENGTH);
+    IS(nb_get(here, 65, tag, sizeof tag, 0) == NB_WRONG_LENGTH);
+    IS(nb_put(here, sizeof here, most, NB_OPERATION_MAX, 0) == NB_DONE);
+    IS(nb_put(here, sizeof here, most, NB_OPERATION_MAX + 1, 0) == NB_ABOVE_LIMIT);
+    IS(nb_get(here, sizeof here, most, NB_OPERATION_MAX + 1, 0) == NB_ABOVE_LIMIT);
+    free(most);
+}
+
+static void sealing(void)
+{
+    uint8_t sealed[5 + NB_TAG_BYTES], back[5] = {9, 9, 9, 9, 9}, zeros[5] = {0};
+    uint8_t *most = calloc(NB_MESSAGE_MAX + 1 + NB_TAG_BYTES, 1), *room = calloc(NB_MESSAGE_MAX + 1 + NB_TAG_BYTES, 1);
+
+    IS(nb_seal(key, 24, nonce, 16, key, 0, (const uint8_t *)"reel7", 5, sealed, sizeof sealed) == NB_DONE);
+    IS(nb_open(key, 23, nonce, 16, key, 0, sealed, sizeof sealed, back, 5) == NB_WRONG_LENGTH && back[0] == 9);
+    IS(nb_open(key, 24, nonce, 16, key, 0, sealed, sizeof sealed, back, 5) == NB_DONE && memcmp(back, "reel7", 5) == 0);
+    IS(nb_open(key, 24, nonce, 16, key, 1, sealed, sizeof sealed, back, 5) == NB_WRONG_TAG && memcmp(back, zeros, 5) == 0);
+    IS(nb_open(key, 24, nonce, 16, key, 0, sealed, 15, back, 0) == NB_WRONG_LENGTH);
+    IS(nb_seal(key, 24, nonce, 15, key, 0, back, 5, sealed, sizeof sealed) == NB_WRONG_LENGTH);
+    IS(nb_seal(key, 24, nonce, 16, key, 0, most, NB_MESSAGE_MAX, room, NB_MESSAGE_MAX + NB_TAG_BYTES) == NB_DONE);
+    IS(nb_seal(key, 24, nonce, 16, key, 0, most, NB_MESSAGE_MAX + 1, room, NB_MESSAGE_MAX + 1 + NB_TAG_BYTES) == NB_ABOVE_LIMIT);
+    free(most);
+    free(room);
+}
+
+static nb_wrote record(nb_wrote s, size_t n)
+{
+    return nb_record(s.id, s.recording, s.capacity, s.zone, s.position, s.closed, key, sizeof key, buffer, n, image, sizeof image);
+}
+
+/* The rehearsal of 01. */
+static nb_wrote writing(void)
+{
+    nb_wrote s = nb_start(1, 1, BLOCKS, image, sizeof image);
+
+    IS(s.reply == NB_REFUSED && s.number == NB_WRONG_ZONE && s.closed == 1);
+    IS(nb_start(1, 1, 1, image, 3 * NB_BLOCK_BYTES).number == NB_WRONG_IMAGE);
+    s = nb_start(1, 1, 3, image, sizeof image);
+    IS(s.reply == NB_PLAIN && s.capacity == BLOCKS && s.position == 0);
+    memset(buffer, 0x5A, sizeof buffer);
+    s = record(s, 5);
+    s = record(s, NB_BLOCK_PAYLOAD + 1);
+    IS(s.position == 3 && s.reply == NB_PLAIN);
+    s = nb_mark(s.id, s.recording, s.capacity, s.zone, s.position, s.closed, key, sizeof key, image, sizeof image);
+    IS(s.position == 4 && s.reply == NB_PLAIN);
+    s = record(s, 3 * NB_BLOCK_PAYLOAD);
+    IS(s.position == 7 && s.reply == NB_WARNED);
+    IS(record(s, 1).number == NB_NO_ROOM && record(s, 0).number == NB_WRONG_RECORD && record(s, NB_RECORD_MAX + 1).number == NB_WRONG_RECORD);
+    s = nb_close(s.id, s.recording, s.capacity, s.zone, s.position, s.closed, key, sizeof key, image, sizeof image);
+    IS(s.position == 8 && s.closed == 1 && s.reply == NB_PLAIN);
+    IS(record(s, 1).number == NB_CLOSED);
+    s.closed = 2;
+    IS(record(s, 1).number == NB_WRONG_STATE && record(s, 1).closed == 2);
+    return s;
+}
+
+static nb_got read_at(size_t p, size_t room)
+{
+    return nb_read(key, sizeof key, 1, 1, image, sizeof image, p, buffer, room);
+}
+
+static void reading(void)
+{
+    nb_got got = read_at(1, NB_RECORD_MAX);
+    nb_part part = nb_record_part(buffer, sizeof buffer, got.data);
+    nb_tally tally = nb_report(key, sizeof key, 1, 1, image, sizeof image);
+    nb_spaced spaced = nb_space(key, sizeof key, 1, 1, image, sizeof image, 0, 1);
+
+    IS(got.outcome == NB_GOT_RECORD && got.data == NB_BLOCK_PAYLOAD + 1 && got.next == 3);
+    IS(part.offset == 0 && part.length == got.data && buffer[got.data - 1] == 0x5A && buffer[got.data] == 0);
+    IS(nb_record_part(buffer, 4, 5).length == 0);
+    IS(read_at(3, NB_RECORD_MAX).outcome == NB_GOT_MARK && read_at(2, NB_RECORD_MAX).outcome == NB_GOT_STRAY);
+    IS(read_at(7, NB_RECORD_MAX).outcome == NB_GOT_END && read_at(7, NB_RECORD_MAX).next == 7);
+    IS(read_at(8, NB_RECORD_MAX).number == NB_WRONG_POSITION && read_at(0, NB_RECORD_MAX - 1).number == NB_WRONG_LENGTH);
+    IS(nb_look(image, sizeof image, 2).offset == 2 * NB_BLOCK_BYTES && nb_look(image, sizeof image, 2).length == NB_BLOCK_BYTES);
+    IS(nb_look_number(image, sizeof image, BLOCKS) == NB_WRONG_POSITION && nb_look(image, sizeof image, BLOCKS).length == 0);
+    IS(spaced.kind == NB_SPACED_AT && spaced.position == 4);
+    spaced = nb_space(key, sizeof key, 1, 1, image, sizeof image, 0, 2);
+    IS(spaced.kind == NB_SPACED_SHORT && spaced.marks == 1 && spaced.position == 7);
+    IS(nb_space(key, 1, 1, 1, image, sizeof image, 0, 1).number == NB_WRONG_LENGTH);
+    IS(tally.number == 0 && tally.records == 3 && tally.marks == 1 && tally.ends == 1 && tally.bads + tally.strays + tally.cuts == 0);
+    image[NB_BLOCK_BYTES + 9] ^= 1;
+    IS(read_at(1, NB_RECORD_MAX).outcome == NB_GOT_BAD && buffer[0] == 0);
+    image[NB_BLOCK_BYTES + 9] ^= 1;
+    image[2 * NB_BLOCK_BYTES + 9] ^= 1;
+    IS(read_at(1, NB_RECORD_MAX).outcome == NB_GOT_CUT && read_at(1, NB_RECORD_MAX).data == 2 && read_at(1, NB_RECORD_MAX).next == 3);
+    IS(nb_report(key, sizeof key, 1, 1, image, 100).number == NB_WRONG_IMAGE);
+}
+
+int main(void)
+{
+    IS(NB_IMAGE_FEWEST == 4 && NB_IMAGE_MOST == 128 && NB_RATE_BYTES == 32 && NB_DOMAIN_NONCE == 0x20 && NB_DOMAIN_DATA == 0x40);
+    permutation();
+    operations();
+    sealing();
+    writing();
+    reading();
+    if (faults == 0)
+        puts("tests/kit.c: every call answers as it should");
+    return faults != 0;
+}
