@@ -401,9 +401,8 @@ static bool agree_space(size_t p, size_t n)
     return agreed;
 }
 
-/* Where it costs nothing, all the counts. Else no marks and up to two counts
- * more from position 0, one at times from another: a spacing opens every block
- * up to the end, so on a large image it starts from few positions. */
+/* Where it costs nothing, all the counts. Else no marks and one count more from
+ * every position, and at times a third from 0. */
 static bool agree_spaces(size_t p)
 {
     static const size_t marks[] = {0, 1, 2, 3, 200, SIZE_MAX};
@@ -418,7 +417,7 @@ static bool agree_spaces(size_t p)
         return false;
     if (p == 0 && once_in(2) && !agree_space(p, 200))
         return false;
-    return (p > 0 && !once_in(c > 12 ? 20 : 2)) || agree_space(p, marks[1 + below(4)]);
+    return agree_space(p, marks[1 + below(4)]);
 }
 
 static bool agree_report(void)
