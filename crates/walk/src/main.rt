@@ -42,6 +42,34 @@ fn digit(c: u8) -> u64
     if c < 48 { 0 } else { (c - 48) as u64 }
 }
 
+fn is_digit(c: u8) -> bool {
+    if c < 48 {
+        return false;
+    }
+    c <= 57
+}
+
+fn all_digits(text: &[u8]) -> bool {
+    let mut i: usize = 0;
+    while i < text.len() {
+        if !is_digit(text[i]) {
+            return false;
+        }
+        i += 1;
+    }
+    true
+}
+
+// Whether argument i is a decimal number of 1 to 20 digits.
+fn is_number(i: usize) -> bool {
+    let mut text = [0u8; 20];
+    let n = os::arg(i, &mut text);
+    if n == 0 {
+        return false;
+    }
+    all_digits(&text[..n])
+}
+
 // The number that argument i spells in decimal; what is above `most` is cut to it.
 fn number(i: usize, most: u64) -> u64
     ensures { λ r. ⌜ r ≤ most ⌝ }
@@ -162,16 +190,32 @@ fn serve(key: &[u8], id: u32, recording: u64, image: &[u8]) {
 }
 
 // Files longer than what may be asked for are read one byte beyond it, so that they are refused and not cut.
+fn run(id: u32, recording: u64) {
+    let mut image = [0u8; 65537];
+    let mut key = [0u8; 25];
+    let n = load(1, &mut image);
+    let k = load(2, &mut key);
+    serve(&key[..k], id, recording, &image[..n]);
+}
+
 fn main() {
     if os::arg_count() != 5 {
         say(b"usage: walk IMAGE KEY ID RECORDING\n");
         return;
     }
-    let mut image = [0u8; 65537];
-    let mut key = [0u8; 25];
-    let n = load(1, &mut image);
-    let k = load(2, &mut key);
-    let id = number(3, 4294967295);
+    if !is_number(3) {
+        say(b"the cartridge id is not a decimal number\n");
+        return;
+    }
+    if !is_number(4) {
+        say(b"the recording number is not a decimal number\n");
+        return;
+    }
+    let id = number(3, 4294967296);
     let recording = number(4, 18446744073709551615);
-    serve(&key[..k], id as u32, recording, &image[..n]);
+    if 4294967295 < id {
+        say(b"the cartridge id is above 4294967295\n");
+        return;
+    }
+    run(id as u32, recording);
 }

@@ -1,23 +1,10 @@
--- `walk::main` is safe and ends.
+-- `walk::run` is safe and ends.
 -- Assumes nothing.
 use mathlib.Core.Path.{sym}
-use native.Mathlib.Omega.{arith}
 use lib.Seq.{length-take-le}
 use borrow.Author.Needs.{needs}
-use Rattle.walk.proofs.main.Statement.{statement}
-use Rattle.walk.proofs.main.Tie as tie
-
-arg-count-requires : tie.Need-arg-count-requires
-arg-count-requires c κs = search needs
-
-slice-aggregate-say : tie.Need-slice-aggregate-say
-slice-aggregate-say c = search needs
-
-say-requires : tie.Need-say-requires
-say-requires c κs = search needs
-
-returns : tie.Need-returns
-returns c = search needs
+use Rattle.walk.proofs.run.Statement.{statement}
+use Rattle.walk.proofs.run.Tie as tie
 
 slice-aggregate-load : tie.Need-slice-aggregate-load
 slice-aggregate-load c = search needs
@@ -31,20 +18,11 @@ slice-aggregate-load-2 c = search needs
 load-requires-2 : tie.Need-load-requires-2
 load-requires-2 c κs = search needs
 
-number-requires : tie.Need-number-requires
-number-requires c κs = search needs
-
-number-requires-2 : tie.Need-number-requires-2
-number-requires-2 c κs = search needs
-
 array-share-prefix-key : tie.Need-array-share-prefix-key
 array-share-prefix-key c = search needs
 
 slice-aggregate-serve : tie.Need-slice-aggregate-serve
 slice-aggregate-serve c = sym (length-take-le _ _ (search needs))
-
-cast-serve : tie.Need-cast-serve
-cast-serve c = search needs
 
 array-share-prefix-image : tie.Need-array-share-prefix-image
 array-share-prefix-image c = search needs
@@ -55,27 +33,20 @@ slice-aggregate-serve-2 c = sym (length-take-le _ _ (search needs))
 serve-requires : tie.Need-serve-requires
 serve-requires c κs = search needs
 
-returns-2 : tie.Need-returns-2
-returns-2 c = search needs
+returns : tie.Need-returns
+returns c = search needs
 
-pub main-spec : {M : Type 1} → statement M
-main-spec =
+pub run-spec : {M : Type 1} → statement M
+run-spec =
     tie.close
     (tie.spec
-    arg-count-requires
-    slice-aggregate-say
-    say-requires
-    returns
     slice-aggregate-load
     load-requires
     slice-aggregate-load-2
     load-requires-2
-    number-requires
-    number-requires-2
     array-share-prefix-key
     slice-aggregate-serve
-    cast-serve
     array-share-prefix-image
     slice-aggregate-serve-2
     serve-requires
-    returns-2)
+    returns)
