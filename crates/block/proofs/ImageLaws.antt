@@ -10,11 +10,11 @@ use lib.ListN.{length, getD, take, drop, replicate, length-drop, take-append-dro
 use lib.Seq.{take-at, drop-at, take-append-le, drop-append-le, drop-append-add, drop-drop, length-take-le}
 use Rattle.laws.specs.Lists.{splice}
 use Rattle.laws.proofs.OrderLaws.{lt-or-ge}
+use Rattle.laws.proofs.ListLaws.{take-zeros, drop-zeros}
 use Rattle.laws.proofs.SpliceLaws.{length-splice}
 use Rattle.block.specs.Content.{Content, shut, Lawful}
 use Rattle.block.specs.Format.{sealBlock, openBlock}
 use Rattle.block.specs.Image.{blockAt, View, view, put, lay}
-use Rattle.block.proofs.ZeroLaws.{take-zeros, drop-zeros}
 use Rattle.block.proofs.SealLaws.{seal-length}
 use Rattle.block.proofs.RoundTrip.{open-seal-block}
 

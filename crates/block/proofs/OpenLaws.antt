@@ -11,6 +11,7 @@ use lib.Dec.{eqb}
 use lib.ListN.{length, getD, take, drop, replicate, length-drop}
 use lib.Seq.{take-take, getD-take, length-take-le}
 use Rattle.laws.specs.Choose.{pick}
+use Rattle.laws.proofs.ListLaws.{drop-take}
 use Rattle.aead.specs.Sealing.{fits, opened, openNumber, openLeaves, Opened}
 use Rattle.aead.proofs.Lengths.{Sizes, Limits, sized-holds, limited-holds}
 use Rattle.aead.proofs.Calls.{open-takes}
@@ -21,15 +22,6 @@ use Rattle.block.specs.Format.{nonceAt, number4, number2, payload, conte
 use Rattle.block.specs.Calls.{seenOf, openable, OpenedAt}
 use Rattle.block.proofs.NumberLaws.{nonce-length}
 use Rattle.block.proofs.ContentLaws.{zeros-left}
-
-drop-take : (n k : ℕ) (l : List ℕ) → drop n (take (n + k) l) ≡ take k (drop n l)
-drop-take zero k l = rw zero-add
-drop-take (suc n) k [] = rw suc-add (sym (nil k))
-  where
-    nil : (j : ℕ) → take {A = ℕ} j [] ≡ []
-    nil zero = refl
-    nil (suc j) = refl
-drop-take (suc n) k (x ∷ l) = rw suc-add (drop-take n k l)
 
 -- where sizes and limits are kept, and the tag does not fit
 pub open-refuses : {k n a t q q′ : List ℕ} {r : ℕ} → Sizes k n (length t) (length q) → Limits a (length q) → fits k n a t ≡ false → Opened k n a t q r q′

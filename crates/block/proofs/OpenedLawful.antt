@@ -12,7 +12,7 @@ use lib.Dec.{eqb, leb, lit<}
 use lib.ListN.{length, getD, take, drop, replicate, length-drop, length-replicate}
 use lib.Seq.{length-take-le}
 use Rattle.laws.specs.Choose.{pick}
-use Rattle.laws.proofs.ByteLaws.{Bytes, bytes-nil, bytes-take, bytes-drop, bytes-append}
+use Rattle.laws.proofs.ByteLaws.{Bytes, bytes-cons, bytes-zeros, bytes-take, bytes-drop, bytes-append}
 use Rattle.laws.proofs.ChooseLaws.{both-left, both-right}
 use Rattle.permutation.proofs.StateLaws.{Whole}
 use Rattle.sponge.specs.Blink.{put, dec}
@@ -23,14 +23,6 @@ use Rattle.block.specs.Content.{shut, more, head, first, mark, eod, Shut
 use Rattle.block.specs.Format.{be4, be8, nonceAt, number4, number2, allZero, usedOk, contentOf, openBlock}
 
 -- ---- bytes
-bytes-cons : (x : ℕ) (s : List ℕ) → x < 256 → Bytes s → Bytes (x ∷ s)
-bytes-cons x s h g zero = h
-bytes-cons x s h g (suc k) = g k
-
-bytes-zeros : (n : ℕ) → Bytes (replicate n 0)
-bytes-zeros zero = bytes-nil
-bytes-zeros (suc n) = bytes-cons 0 (replicate n 0) (lit< tt) (bytes-zeros n)
-
 all-bytes : (s : List ℕ) → Bytes s → AllBytes s
 all-bytes [] h = tt
 all-bytes (x ∷ s) h = (h 0, all-bytes s (λ k. h (suc k)))

@@ -9,8 +9,9 @@ use native.Mathlib.Omega.{arith}
 use lib.ListN.{length, take, drop, replicate, length-append, length-replicate, length-drop, take-append-drop}
 use lib.Seq.{take-all, take-append-add, length-take-le, drop-at}
 use Rattle.laws.specs.Lists.{splice}
+use Rattle.laws.proofs.ListLaws.{take-zeros, drop-zeros}
 use Rattle.block.specs.Format.{payload, allZero}
-use Rattle.block.proofs.ZeroLaws.{take-zeros, drop-zeros, zeros-pass, passes-zeros}
+use Rattle.block.proofs.ZeroLaws.{zeros-pass, passes-zeros}
 
 -- ---- of any length n: b and zeros behind it
 padded-is : (n : ℕ) (b : List ℕ) → length b ≤ n → take n (b ++ replicate n 0) ≡ b ++ replicate (n - length b) 0

@@ -1,26 +1,16 @@
--- Lists of zeros: their parts, and the search for a byte that is not zero.
+-- The test for zeros, and the search for a byte that is not zero.
 -- Assumes nothing.
 use borrow.Author.Tests.{eq-eqb, ne-eqb, eqb-true}
 use mathlib.Core.Path.{_≡_, refl, ap₂}
 use mathlib.Core.Bool.{true, false}
 use mathlib.Core.List.{List, [], _∷_}
 use Prim.Native.Nat.{ℕ, zero, suc, _+_, _≤_, _<_}
-use native.Mathlib.Nat.{zero-add, suc-add}
 use native.Mathlib.Numerals.{add-one}
 use lib.Dec.{eqb}
-use lib.ListN.{length, getD, take, drop, replicate, drop-of-length-le}
+use lib.ListN.{length, getD, drop, replicate, drop-of-length-le}
 use lib.Seq.{drop-cons}
 use Rattle.laws.proofs.ChooseLaws.{both-left, both-right}
 use Rattle.block.specs.Format.{allZero}
-
--- ---- parts
-pub take-zeros : (n k : ℕ) → take {A = ℕ} n (replicate (n + k) 0) ≡ replicate n 0
-take-zeros zero k = refl
-take-zeros (suc n) k = rw (suc-add, take-zeros n k)
-
-pub drop-zeros : (n k : ℕ) → drop {A = ℕ} n (replicate (n + k) 0) ≡ replicate k 0
-drop-zeros zero k = rw zero-add
-drop-zeros (suc n) k = rw suc-add (drop-zeros n k)
 
 -- ---- the test: it holds of zeros only
 pub zeros-pass : (n : ℕ) → allZero (replicate n 0) ≡ true

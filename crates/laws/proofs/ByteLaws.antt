@@ -1,12 +1,12 @@
 -- Lists of bytes: what is made of them by parts, stores and splices is of bytes.
 -- Assumes nothing.
 use mathlib.Core.Path.{_≡_}
-use mathlib.Core.List.{List, [], _++_}
+use mathlib.Core.List.{List, [], _∷_, _++_}
 use mathlib.Core.Logic.{⊎-elim}
-use Prim.Native.Nat.{ℕ, _+_, _-_, _<_}
+use Prim.Native.Nat.{ℕ, zero, suc, _+_, _-_, _<_}
 use native.Mathlib.Omega.{arith}
 use lib.Dec.{lit<}
-use lib.ListN.{length, getD, set, take, drop, length-take, List·getD-append, List·getD-eq-default}
+use lib.ListN.{length, getD, set, take, drop, replicate, length-take, List·getD-append, List·getD-eq-default}
 use lib.Seq.{getD-take, getD-drop, getD-append-add, getD-set-same, getD-set-other, set-out}
 use Rattle.laws.specs.Lists.{splice}
 use Rattle.laws.proofs.OrderLaws.{lt-or-ge}
@@ -17,6 +17,14 @@ Bytes s = (k : ℕ) → getD s k 0 < 256
 
 pub bytes-nil : Bytes []
 bytes-nil k = lit< tt
+
+pub bytes-cons : (x : ℕ) (s : List ℕ) → x < 256 → Bytes s → Bytes (x ∷ s)
+bytes-cons x s h g zero = h
+bytes-cons x s h g (suc k) = g k
+
+pub bytes-zeros : (n : ℕ) → Bytes (replicate n 0)
+bytes-zeros zero = bytes-nil
+bytes-zeros (suc n) = bytes-cons 0 (replicate n 0) (lit< tt) (bytes-zeros n)
 
 pub bytes-take : (n : ℕ) (s : List ℕ) → Bytes s → Bytes (take n s)
 bytes-take n s h k =

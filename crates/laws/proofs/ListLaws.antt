@@ -7,7 +7,7 @@ use Prim.Native.Nat.{ℕ, zero, suc, _+_, _-_, _≤_, _<_}
 use native.Mathlib.Nat.{add-zero, zero-add, add-suc, suc-add, le-of-suc-le-suc, not-suc-le-zero}
 use native.Mathlib.Numerals.{add-one}
 use native.Mathlib.Omega.{arith}
-use lib.ListN.{length, getD, set, take, drop, length-append, length-drop, drop-of-length-le, List·getD-append}
+use lib.ListN.{length, getD, set, take, drop, replicate, length-append, length-drop, drop-of-length-le, List·getD-append}
 use lib.Seq.{drop-cons, set-at, getD-at, append-snoc, ext-getD, getD-append-add, getD-drop, getD-take, length-take-le}
 use Rattle.laws.specs.Lists.{listed, front}
 use Rattle.laws.proofs.OrderLaws.{lt-or-ge}
@@ -105,3 +105,21 @@ front-rest n i f s t e h b same =
     e
     ∙ sym (listed-is n f (front i f s) (front-length i f s (omega arith) ∙ h)
     (λ k l. ⊎-elim (λ p. sym (front-before i f s k p)) (λ p. same k p ∙ sym (front-after i f s k p)) (lt-or-ge k i)))
+
+-- ---- parts of zeros, and a part of a part
+pub take-zeros : (n k : ℕ) → take {A = ℕ} n (replicate (n + k) 0) ≡ replicate n 0
+take-zeros zero k = refl
+take-zeros (suc n) k = rw (suc-add, take-zeros n k)
+
+pub drop-zeros : (n k : ℕ) → drop {A = ℕ} n (replicate (n + k) 0) ≡ replicate k 0
+drop-zeros zero k = rw zero-add
+drop-zeros (suc n) k = rw suc-add (drop-zeros n k)
+
+pub drop-take : (n k : ℕ) (l : List ℕ) → drop n (take (n + k) l) ≡ take k (drop n l)
+drop-take zero k l = rw zero-add
+drop-take (suc n) k [] = rw suc-add (sym (nil k))
+  where
+    nil : (j : ℕ) → take {A = ℕ} j [] ≡ []
+    nil zero = refl
+    nil (suc j) = refl
+drop-take (suc n) k (x ∷ l) = rw suc-add (drop-take n k l)
