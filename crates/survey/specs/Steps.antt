@@ -1,18 +1,17 @@
--- What the reader's own steps promise where no buffer receives a record: a read by lengths alone, an answer counted, and the walk behind an answer.
-use mathlib.Core.Bool.{Bool, true, false}
-use mathlib.Core.List.{List}
+-- What survey's own steps promise where no buffer receives a record: a read by lengths alone, an answer counted, and the walk behind an answer.
+use mathlib.Core.Bool.{true, false}
 use Prim.Native.Nat.{ℕ, zero, suc, _+_, _≤_}
 use Rattle.laws.specs.Choose.{pick}
 use Rattle.block.specs.Image.{View}
 use Rattle.block.specs.declared.Seen.{Seen}
 use Rattle.block.specs.declared.Seen.the-variants as seen
 use Rattle.block.specs.Calls.{seenOf}
 use Rattle.reader.specs.declared.Outcome.{Outcome}
 use Rattle.reader.specs.declared.Outcome.the-variants as o
 use Rattle.reader.specs.declared.Got.{Got}
-use Rattle.reader.specs.declared.Tally.{Tally}
-use Rattle.reader.specs.Walk.{Told, Answer, isEnd, walkFrom}
-use Rattle.reader.specs.Reading.{counted, tallied}
+use Rattle.survey.specs.declared.Tally.{Tally}
+use Rattle.reader.specs.Walk.{Answer, isEnd, walkFrom}
+use Rattle.survey.specs.Report.{counted, tallied}
 
 abbrev pub got : Outcome → ℕ → Got
 got x n = record { outcome = x; next = n }

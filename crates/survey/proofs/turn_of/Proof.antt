@@ -1,10 +1,10 @@
--- `reader::turn_of` meets its contract: a number for each outcome.
+-- `survey::turn_of` meets its contract: a number for each outcome.
 -- Assumes nothing.
 use borrow.Author.Needs.{needs}
 use mathlib.Core.Path.{sym, ap}
-use Rattle.reader.specs.Counting.{turn}
-use Rattle.reader.proofs.turn_of.Statement.{statement}
-use Rattle.reader.proofs.turn_of.Tie as tie
+use Rattle.survey.specs.Steps.{turn}
+use Rattle.survey.proofs.turn_of.Statement.{statement}
+use Rattle.survey.proofs.turn_of.Tie as tie
 
 enum-told : tie.Need-enum-told
 enum-told c = search needs

@@ -1,21 +1,18 @@
--- `reader::seen_at` meets its contract: the block at q, opened into a scratch buffer.
+-- `survey::seen_at` meets its contract: the block at q, opened into a scratch buffer.
 -- Assumes nothing.
 use borrow.Author.Needs.{needs}
 use mathlib.Core.Path.{refl}
 use Prim.Native.Nat.{ℕ}
 use lib.ListN.{length-replicate}
-use Rattle.reader.proofs.SpaceLaws.{seen-is}
-use Rattle.reader.proofs.seen_at.Statement.{statement}
-use Rattle.reader.proofs.seen_at.Tie as tie
+use Rattle.reader.proofs.BufferLaws.{opened-says}
+use Rattle.survey.proofs.seen_at.Statement.{statement}
+use Rattle.survey.proofs.seen_at.Tie as tie
 
-mul-at : tie.Need-mul-at
-mul-at c = search needs
+mul-start : tie.Need-mul-start
+mul-start c = search needs
 
 cast-open-block : tie.Need-cast-open-block
 cast-open-block c = search needs
-
-add-open-block : tie.Need-add-open-block
-add-open-block c = search needs
 
 sub-open-block : tie.Need-sub-open-block
 sub-open-block c = search needs
@@ -37,15 +34,14 @@ returns c =
     let o = c .before .open-block in
     let e = c .before .before .before .before .before .before in
     let a = e .args in
-    seen-is (a .key .now) (a .id) (a .recording) (a .q) (a .image .now) _ _ _ (e .pre .0) (e .pre .1 .0) refl (length-replicate {A = ℕ} 488 0) (o .ensures .says)
+    opened-says (a .key .now) (a .id) (a .recording) (a .image .now) (a .q) (e .pre .0) (e .pre .1 .0) refl (length-replicate {A = ℕ} 488 0) (o .ensures)
 
 pub seen-at-spec : {M : Type 1} → statement M
 seen-at-spec =
     tie.close
     (tie.spec
-    mul-at
+    mul-start
     cast-open-block
-    add-open-block
     sub-open-block
     part-open-block-start
     part-open-block-end

@@ -12,13 +12,14 @@ use Rattle.block.specs.Image.{View}
 use Rattle.block.specs.Calls.{seenOf}
 use Rattle.block.specs.declared.Seen.{Seen}
 use Rattle.block.specs.declared.Seen.the-variants as seen
 use Rattle.reader.specs.declared.Outcome.{Outcome}
 use Rattle.reader.specs.declared.Outcome.the-variants as o
-use Rattle.reader.specs.declared.Tally.{Tally}
+use Rattle.survey.specs.declared.Tally.{Tally}
 use Rattle.reader.specs.Walk.{Told, Record, Mark, End, Bad, Stray, Cut, inside, gather, between, readAt, isEnd, Visit, visit, walkFrom}
-use Rattle.reader.specs.Reading.{outcomeOf, counted, tallied}
-use Rattle.reader.specs.Counting.{countedBy, Few, countOn, after}
+use Rattle.reader.specs.Reading.{outcomeOf}
+use Rattle.survey.specs.Report.{counted, tallied}
+use Rattle.survey.specs.Steps.{countedBy, Few, countOn, after}
 use Rattle.reader.proofs.WalkLaws.{walkFrom-over, walkFrom-step}
 
 -- an answer counts by its outcome alone
 pub counted-by : (x : Told) (t : Tally) → countedBy (outcomeOf x) t ≡ counted x t

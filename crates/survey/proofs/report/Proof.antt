@@ -1,4 +1,4 @@
--- `reader::report` meets its contract: its tests, one after the other, then the walk from 0 on.
+-- `survey::report` meets its contract: its tests, one after the other, then the walk from 0 on.
 -- Assumes nothing.
 use borrow.Author.Needs.{needs}
 use borrow.Author.Tests.{eq-eqb, ne-eqb}
@@ -6,13 +6,14 @@ use native.Mathlib.Omega.{arith}
 use lib.ListN.{length}
 use Rattle.laws.proofs.ChooseLaws.{passed, failed}
 use Rattle.block.specs.Image.{imageOk, capacityOf}
 use Rattle.reader.specs.Walk.{walk}
-use Rattle.reader.specs.Reading.{keyOk, reportNumber, reportOf}
-use Rattle.reader.specs.Counting.{countOn}
-use Rattle.reader.proofs.SizeLaws.{size-blocks}
-use Rattle.reader.proofs.CountLaws.{few-up, few-none}
-use Rattle.reader.proofs.report.Statement.{statement}
-use Rattle.reader.proofs.report.Tie as tie
+use Rattle.reader.specs.Reading.{keyOk}
+use Rattle.survey.specs.Report.{reportNumber, reportOf}
+use Rattle.survey.specs.Steps.{countOn}
+use Rattle.survey.proofs.SizeLaws.{size-blocks}
+use Rattle.survey.proofs.CountLaws.{few-up, few-none}
+use Rattle.survey.proofs.report.Statement.{statement}
+use Rattle.survey.proofs.report.Tie as tie
 
 is-image-requires : tie.Need-is-image-requires
 is-image-requires c κs = search needs

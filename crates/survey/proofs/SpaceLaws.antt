@@ -1,65 +1,30 @@
 -- A read by lengths alone, and spacing by its steps.
 -- Assumes nothing.
-use borrow.Author.Tests.{eq-eqb, ne-eqb, lt-ltb, le-ltb, le-leb, eqb-true, leb-true}
+use borrow.Author.Tests.{eq-eqb, ne-eqb, lt-ltb, le-ltb}
 use mathlib.Core.Path.{_≡_, refl, sym, ap, _∙_}
-use mathlib.Core.Bool.{Bool, true, false, _&&_}
+use mathlib.Core.Bool.{true, false}
 use mathlib.Core.List.{List, _++_}
 use Prim.Native.Nat.{ℕ, zero, suc, _+_, _-_, _*_, _≤_, _<_, min}
 use native.Mathlib.Numerals.{add-one}
 use native.Mathlib.Omega.{arith}
-use lib.Dec.{eqb, leb}
-use lib.ListN.{length, getD, take, drop, length-append, length-take, length-drop}
-use lib.Seq.{length-take-le, take-all}
-use Rattle.laws.specs.Choose.{pick}
-use Rattle.laws.proofs.ChooseLaws.{both-right}
-use Rattle.aead.specs.Sealing.{opened, fits}
+use lib.ListN.{length, length-append}
 use Rattle.block.specs.Content.{Content, shut, more, head, first, mark, eod}
-use Rattle.block.specs.Format.{nonceAt, number2, number4, allZero, usedOk, contentOf, openBlock}
-use Rattle.block.specs.Image.{View, view, blockAt}
-use Rattle.block.specs.Calls.{seenOf, openable}
+use Rattle.block.specs.Image.{View, view}
+use Rattle.block.specs.Calls.{seenOf}
 use Rattle.block.specs.declared.Seen.{Seen}
 use Rattle.block.specs.declared.Seen.the-variants as seen
 use Rattle.reader.specs.declared.Outcome.the-variants as o
 use Rattle.reader.specs.declared.Got.{Got}
-use Rattle.reader.specs.declared.Spaced.{Spaced}
-use Rattle.reader.specs.declared.Spaced.the-variants as s
+use Rattle.survey.specs.declared.Spaced.{Spaced}
+use Rattle.survey.specs.declared.Spaced.the-variants as s
 use Rattle.reader.specs.Walk.{Told, Record, Mark, End, Bad, Stray, Cut, Answer, inside, gather, between, readAt, isEnd}
-use Rattle.reader.specs.Reading.{outcomeOf, gotOf, spaceOn, spaceFrom}
-use Rattle.reader.specs.Counting.{got, insideBy, restBy, turn}
+use Rattle.reader.specs.Reading.{outcomeOf, gotOf}
+use Rattle.survey.specs.Spacing.{spaceOn, spaceFrom}
+use Rattle.survey.specs.Steps.{got, insideBy, restBy, turn}
+use Rattle.reader.proofs.ViewLaws.{Sized, sized-most, view-sized}
 use Rattle.reader.proofs.WalkLaws.{Onward, read-onward}
 
--- ---- what a place shows, as the code sees it
-part-is : (image : List ℕ) (q : ℕ) (part : List ℕ) → part ≡ take (q * 512 + 512 - q * 512) (drop (q * 512) image) → part ≡ blockAt image q
-unfolding blockAt
-part-is image q part e =
-    let k : q * 512 + 512 - q * 512 ≡ 512 = omega arith in
-    let m : q * 512 ≡ 512 * q = omega arith in
-    e ∙ ap (λ (n : ℕ). take n (drop (q * 512) image)) k ∙ ap (λ (n : ℕ). take 512 (drop n image)) m
-
-block-length : (image : List ℕ) (q : ℕ) → q * 512 + 512 ≤ length image → length (blockAt image q) ≡ 512
-unfolding blockAt
-block-length image q h = length-take-le 512 (drop (512 * q) image) (omega (arith, length-drop (512 * q) image))
-
-pub seen-is : (key : List ℕ) (id recording q : ℕ) (image part out : List ℕ) (r : Seen) → length key ≡ 24 → q * 512 + 512 ≤ length image
-    → part ≡ take (q * 512 + 512 - q * 512) (drop (q * 512) image) → length out ≡ 488
-    → r ≡ pick (openable key part out) (seenOf (openBlock key id recording q (take 512 part))) seen.Shut → r ≡ seenOf (view key id recording image q)
-unfolding openable view
-seen-is key id recording q image part out r hk hi hp ho e =
-    let b = part-is image q part hp in
-    let n : length part ≡ 512 = ap length b ∙ block-length image q hi in
-    let w : take 512 part ≡ blockAt image q = take-all 512 part (omega arith) ∙ b in
-    e ∙ rw (eq-eqb _ _ hk, le-leb 512 (length part) (omega arith), eq-eqb _ _ ho) (ap (λ (x : List ℕ). seenOf (openBlock key id recording q x)) w)
-
--- ---- a record's block has at most 488 bytes
-used-most : (last used : ℕ) → usedOk last used ≡ true → used ≤ 488
-unfolding usedOk
-used-most last used = go (eqb last 0) (eqb last 1)
-  where
-    go : (t u : Bool) → pick t (eqb used 488) (u && (leb 1 used && leb used 488)) ≡ true → used ≤ 488
-    go true u e = omega (arith, eqb-true used 488 e)
-    go false u e = leb-true used 488 (both-right (leb 1 used) (leb used 488) (both-right u (leb 1 used && leb used 488) e))
-
--- the bytes that a seen block uses
+-- ---- the bytes that a seen block uses: at most 488
 abbrev pub usedIn : Seen → ℕ
 usedIn seen.Shut = 0
 usedIn (seen.First l n) = n
@@ -67,44 +32,17 @@ usedIn (seen.More l n) = n
 usedIn seen.Mark = 0
 usedIn seen.End = 0
 
-module _ (last used : ℕ) (m : List ℕ) where
-  front-most : usedOk last used ≡ true → length (take used m) ≤ 488
-  front-most u = let k = used-most last used u in omega (arith, length-take used m)
+used-most : (x : Content) → Sized x → usedIn (seenOf x) ≤ 488
+used-most shut z = omega arith
+used-most (more l b) z = sized-most l b z
+used-most (head (first l b)) z = sized-most l b z
+used-most (head mark) z = omega arith
+used-most (head eod) z = omega arith
 
-  content-most : (kind : ℕ) → usedIn (seenOf (contentOf kind last used m)) ≤ 488
-  unfolding contentOf
-  content-most kind = go (allZero (drop used m)) (eqb kind 1) (usedOk last used) (eqb kind 2) (eqb last 0 && eqb used 0) (eqb kind 3) (eqb kind 4) front-most
-    where
-      go : (t k₁ u k₂ d k₃ k₄ : Bool) → (u ≡ true → length (take used m) ≤ 488)
-          → usedIn (seenOf (pick t (pick k₁ (pick u (head (first (eqb last 1) (take used m))) shut) (pick k₂ (pick u (more (eqb last 1) (take used m)) shut) (pick d (pick k₃ (head mark) (pick k₄ (head eod) shut)) shut))) shut)) ≤ 488
-      go false k₁ u k₂ d k₃ k₄ a = omega arith
-      go true true true k₂ d k₃ k₄ a = a refl
-      go true true false k₂ d k₃ k₄ a = omega arith
-      go true false true true d k₃ k₄ a = a refl
-      go true false false true d k₃ k₄ a = omega arith
-      go true false u false true true k₄ a = omega arith
-      go true false u false true false true a = omega arith
-      go true false u false true false false a = omega arith
-      go true false u false false k₃ k₄ a = omega arith
-
-pub view-most : (key : List ℕ) (id recording : ℕ) (image : List ℕ) (q : ℕ) → usedIn (seenOf (view key id recording image q)) ≤ 488
-unfolding view openBlock
-view-most key id recording image q = go (eqb (number4 b 0) q && fits key n (take 8 b) (drop 8 b))
-  where
-    b : List ℕ
-    b = blockAt image q
-
-    n : List ℕ
-    n = nonceAt id recording q
-
-    go : (t : Bool) → usedIn (seenOf (pick t (contentOf (getD b 4 0) (getD b 5 0) (number2 b 6) (opened key n (take 8 b) (drop 8 b))) shut)) ≤ 488
-    go true = content-most (getD b 5 0) (number2 b 6) (opened key n (take 8 b) (drop 8 b)) (getD b 4 0)
-    go false = omega arith
-
--- what was seen there, told apart as x
-pub seen-most : (key : List ℕ) (id recording : ℕ) (image : List ℕ) (q : ℕ) (r x : Seen) → r ≡ seenOf (view key id recording image q) → r ≡ x → usedIn x ≤ 488
-seen-most key id recording image q r x e d =
-    rw (sym d ∙ e) (view-most key id recording image q)
+-- what was seen at q, told apart as x
+pub seen-most : (key : List ℕ) (id recording : ℕ) (image : List ℕ) (q : ℕ) (r x : Seen) → q * 512 + 512 ≤ length image → r ≡ seenOf (view key id recording image q) → r ≡ x → usedIn x ≤ 488
+seen-most key id recording image q r x h e d =
+    rw (sym d ∙ e) (used-most (view key id recording image q) (view-sized key id recording image q h))
 
 -- ---- the rest of a record by lengths alone
 rest-inside : (x : Content) (q : ℕ) (b : List ℕ) (on : List ℕ → Answer) (by : ℕ → Got) → ((d : List ℕ) → by (length d) ≡ gotOf (on d))

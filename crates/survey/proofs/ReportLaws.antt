@@ -8,11 +8,11 @@ use native.Mathlib.Nat.{zero-add}
 use native.Mathlib.Omega.{arith}
 use lib.ListN.{length}
 use Rattle.block.specs.Image.{view, capacityOf}
-use Rattle.reader.specs.declared.Tally.{Tally}
+use Rattle.survey.specs.declared.Tally.{Tally}
 use Rattle.reader.specs.Walk.{Told, Record, Mark, End, Bad, Stray, Cut, Visit, walk}
-use Rattle.reader.specs.Reading.{none, counted, tallied, reportNumber, reportOf}
-use Rattle.reader.specs.Marks.{markAt, marksOf, howMany, ofRecord, ofMark, ofEnd, ofBad, ofStray, ofCut, Counts}
+use Rattle.survey.specs.Report.{none, counted, tallied, reportNumber, reportOf}
+use Rattle.survey.specs.Marks.{markAt, marksOf, howMany, ofRecord, ofMark, ofEnd, ofBad, ofStray, ofCut, Counts}
 use Rattle.reader.proofs.WalkLaws.{walk-length}
 
 -- a number of the tally that each answer x adds g x to
 tallied-adds : (F : Tally → ℕ) (g : Told → ℕ) → ((x : Told) (t : Tally) → F (counted x t) ≡ g x + F t) → (w : List Visit) (t : Tally) → F (tallied w t) ≡ howMany g w + F t

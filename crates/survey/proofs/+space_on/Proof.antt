@@ -1,25 +1,25 @@
--- `reader::space_on` meets its contract: it falls back on itself with fewer blocks left.
+-- `survey::space_on` meets its contract: it falls back on itself with fewer blocks left.
 -- Assumes nothing.
 use borrow.Author.Needs.{needs}
 use mathlib.Core.Path.{sym, ap, _∙_}
 use Prim.Native.Nat.{ℕ, _+_, _-_, _<_}
 use native.Mathlib.Omega.{arith}
 use Rattle.block.specs.Image.{view}
 use Rattle.reader.specs.declared.Got.{Got}
-use Rattle.reader.specs.Reading.{spaceFrom}
-use Rattle.reader.specs.Counting.{turn}
-use Rattle.reader.proofs.SpaceLaws.{read-next, space-none, space-over, space-stop, space-mark, space-other}
+use Rattle.survey.specs.Spacing.{spaceFrom}
+use Rattle.survey.specs.Steps.{turn}
+use Rattle.survey.proofs.SpaceLaws.{read-next, space-none, space-over, space-stop, space-mark, space-other}
 use borrow.Fn.Kinds.{In, Out}
 use borrow.Fn.PlainCycle.{Measures, is, falls, and}
-use Rattle.reader.proofs.space_on.Reads as space-on
-use Rattle.reader.proofs.space_on.Kinds as space-on-kinds
-use Rattle.reader.proofs.+space_on.Lts-space_on as space-on-lts
-use Rattle.reader.proofs.answer_at.Reads as answer-at-reads
-use Rattle.reader.proofs.answer_at.Kinds as answer-at-kinds
-use Rattle.reader.proofs.turn_of.Kinds as turn-of-kinds
-use Rattle.reader.proofs.turn_of.Reads as turn-of-reads
-use Rattle.reader.proofs.+space_on.{statement}
-use Rattle.reader.proofs.+space_on.Tie.{close}
+use Rattle.survey.proofs.space_on.Reads as space-on
+use Rattle.survey.proofs.space_on.Kinds as space-on-kinds
+use Rattle.survey.proofs.+space_on.Lts-space_on as space-on-lts
+use Rattle.survey.proofs.answer_at.Reads as answer-at-reads
+use Rattle.survey.proofs.answer_at.Kinds as answer-at-kinds
+use Rattle.survey.proofs.turn_of.Kinds as turn-of-kinds
+use Rattle.survey.proofs.turn_of.Reads as turn-of-reads
+use Rattle.survey.proofs.+space_on.{statement}
+use Rattle.survey.proofs.+space_on.Tie.{close}
 
 abbrev μ-space-on : Measures 2 space-on-kinds.ps ℕ
 μ-space-on κs a = a .1 .1 .1 .1 .0 - a .1 .1 .1 .1 .1 .0

@@ -15,13 +15,14 @@ use Rattle.laws.proofs.ChooseLaws.{no-refusal}
 use Rattle.laws.proofs.OrderLaws.{lt-or-ge}
 use Rattle.block.specs.Content.{Content, shut, more, head, first, mark, eod}
 use Rattle.block.specs.Image.{View, view, capacityOf, imageOk}
-use Rattle.reader.specs.declared.Spaced.the-variants as s
+use Rattle.survey.specs.declared.Spaced.the-variants as s
 use Rattle.reader.specs.Walk.{Told, Record, Mark, End, Bad, Stray, Cut, Answer, inside, gather, between, readAt, isEnd, Visit, visit, walkFrom}
-use Rattle.reader.specs.Reading.{outcomeOf, keyOk, spaceFrom, spaceNumber, spacing}
-use Rattle.reader.specs.Counting.{turn}
-use Rattle.reader.specs.Marks.{markAt, marksOf, endAt, endOf, spacedOver}
+use Rattle.reader.specs.Reading.{outcomeOf, keyOk}
+use Rattle.survey.specs.Spacing.{spaceFrom, spaceNumber, spacing}
+use Rattle.survey.specs.Steps.{turn}
+use Rattle.survey.specs.Marks.{markAt, marksOf, endAt, endOf, spacedOver}
 use Rattle.reader.proofs.WalkLaws.{read-onward, walkFrom-over, walkFrom-ends, walkFrom-goes}
-use Rattle.reader.proofs.SpaceLaws.{space-none, space-over, space-stop, space-mark, space-other}
+use Rattle.survey.proofs.SpaceLaws.{space-none, space-over, space-stop, space-mark, space-other}
 
 -- ---- what is not refused
 number-place : (i k t : Bool) → firstOf i 1 (firstOf k 2 (firstOf t 8 0)) ≡ 0 → t ≡ true

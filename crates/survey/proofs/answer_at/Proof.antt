@@ -1,4 +1,4 @@
--- `reader::answer_at` meets its contract: an answer for each thing that may be seen.
+-- `survey::answer_at` meets its contract: an answer for each thing that may be seen.
 -- Assumes nothing.
 use borrow.Author.Needs.{needs}
 use mathlib.Core.Path.{ap, _∙_}
@@ -6,9 +6,9 @@ use mathlib.Core.Bool.{Bool, true, false}
 use native.Mathlib.Omega.{arith}
 use Rattle.block.specs.Image.{view}
 use Rattle.block.specs.declared.Seen.the-variants as seen
-use Rattle.reader.proofs.SpaceLaws.{seen-most, read-by}
-use Rattle.reader.proofs.answer_at.Statement.{statement}
-use Rattle.reader.proofs.answer_at.Tie as tie
+use Rattle.survey.proofs.SpaceLaws.{seen-most, read-by}
+use Rattle.survey.proofs.answer_at.Statement.{statement}
+use Rattle.survey.proofs.answer_at.Tie as tie
 
 seen-at-requires : tie.Need-seen-at-requires
 seen-at-requires c κs = search needs
@@ -31,7 +31,7 @@ answer-rest-requires c κs =
     let w = d .last .given .0 in
     let s = d .before .before in
     let a = s .before .before .before .args in
-    let k = seen-most (a .key .now) (a .id) (a .recording) (a .image .now) (a .p) (s .seen-at .result) (seen.First (w .0) (w .1 .0)) (s .seen-at .ensures) (d .last .given .1) in
+    let k = seen-most (a .key .now) (a .id) (a .recording) (a .image .now) (a .p) (s .seen-at .result) (seen.First (w .0) (w .1 .0)) (omega arith) (s .seen-at .ensures) (d .last .given .1) in
     omega arith
 
 enum-told-2 : tie.Need-enum-told-2

@@ -5,10 +5,10 @@ use Prim.Native.Nat.{ℕ, suc, _+_, _-_}
 use lib.Dec.{eqb, leb}
 use lib.ListN.{length, getD}
 use Rattle.laws.specs.Choose.{pick}
-use Rattle.reader.specs.declared.Spaced.{Spaced}
-use Rattle.reader.specs.declared.Spaced.the-variants as s
-use Rattle.reader.specs.declared.Tally.{Tally}
+use Rattle.survey.specs.declared.Spaced.{Spaced}
+use Rattle.survey.specs.declared.Spaced.the-variants as s
+use Rattle.survey.specs.declared.Tally.{Tally}
 use Rattle.reader.specs.Walk.{Told, Record, Mark, End, Bad, Stray, Cut, Visit}
 
 -- the places of the visits that say Mark, in their order
 abbrev pub markAt : Told → ℕ → List ℕ → List ℕ

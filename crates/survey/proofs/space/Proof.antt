@@ -1,4 +1,4 @@
--- `reader::space` meets its contract: its tests, one after the other, then the spacing itself.
+-- `survey::space` meets its contract: its tests, one after the other, then the spacing itself.
 -- Assumes nothing.
 use borrow.Author.Needs.{needs}
 use borrow.Author.Tests.{eq-eqb, ne-eqb, lt-ltb, le-ltb}
@@ -6,10 +6,11 @@ use native.Mathlib.Omega.{arith}
 use lib.ListN.{length}
 use Rattle.laws.proofs.ChooseLaws.{passed, failed}
 use Rattle.block.specs.Image.{imageOk, capacityOf}
-use Rattle.reader.specs.Reading.{keyOk, spaceNumber, spacing}
-use Rattle.reader.proofs.SizeLaws.{size-blocks}
-use Rattle.reader.proofs.space.Statement.{statement}
-use Rattle.reader.proofs.space.Tie as tie
+use Rattle.reader.specs.Reading.{keyOk}
+use Rattle.survey.specs.Spacing.{spaceNumber, spacing}
+use Rattle.survey.proofs.SizeLaws.{size-blocks}
+use Rattle.survey.proofs.space.Statement.{statement}
+use Rattle.survey.proofs.space.Tie as tie
 
 is-image-requires : tie.Need-is-image-requires
 is-image-requires c κs = search needs

@@ -1,4 +1,4 @@
--- `reader::answer_rest` meets its contract: what the loop has left to do is the whole.
+-- `survey::answer_rest` meets its contract: what the loop has left to do is the whole.
 -- Assumes nothing.
 use borrow.Author.Needs.{needs}
 use mathlib.Core.Path.{_≡_, sym, ap, _∙_}
@@ -9,11 +9,11 @@ use native.Mathlib.Numerals.{add-one}
 use native.Mathlib.Omega.{arith}
 use Rattle.block.specs.Image.{view}
 use Rattle.block.specs.declared.Seen.the-variants as seen
 use Rattle.reader.specs.declared.Outcome.the-variants as o
-use Rattle.reader.specs.Counting.{got, cutAt, restBy}
-use Rattle.reader.proofs.SpaceLaws.{seen-most, rest-on, rest-end}
-use Rattle.reader.proofs.answer_rest.Statement.{statement}
-use Rattle.reader.proofs.answer_rest.Tie as tie
+use Rattle.survey.specs.Steps.{got, cutAt, restBy}
+use Rattle.survey.proofs.SpaceLaws.{seen-most, rest-on, rest-end}
+use Rattle.survey.proofs.answer_rest.Statement.{statement}
+use Rattle.survey.proofs.answer_rest.Tie as tie
 
 abbrev Inv-loop : tie.InvT-loop
 Inv-loop key id recording image p c used end held₀ q₀ held q =
@@ -69,7 +69,7 @@ add-t20 c =
     let s = d .before .before in
     let l = s .before .before .loop in
     let a = s .before .before .before .before .before .before .args in
-    let k = seen-most (a .key .now) (a .id) (a .recording) (a .image .now) (l .q) (s .seen-at .result) (seen.More (w .0) (w .1 .0)) (s .seen-at .ensures) (d .last .given .1) in
+    let k = seen-most (a .key .now) (a .id) (a .recording) (a .image .now) (l .q) (s .seen-at .result) (seen.More (w .0) (w .1 .0)) (omega arith) (s .seen-at .ensures) (d .last .given .1) in
     omega arith
 
 add-t22 : tie.Need-add-t22 Inv-loop μ-loop
@@ -93,7 +93,7 @@ add-held c =
     let s = d .before .before in
     let l = s .before .before .loop in
     let a = s .before .before .before .before .before .before .args in
-    let k = seen-most (a .key .now) (a .id) (a .recording) (a .image .now) (l .q) (s .seen-at .result) (seen.More (w .0) (w .1 .0)) (s .seen-at .ensures) (d .last .given .1) in
+    let k = seen-most (a .key .now) (a .id) (a .recording) (a .image .now) (l .q) (s .seen-at .result) (seen.More (w .0) (w .1 .0)) (omega arith) (s .seen-at .ensures) (d .last .given .1) in
     omega arith
 
 enum-told-2 : tie.Need-enum-told-2 Inv-loop μ-loop
@@ -151,7 +151,7 @@ loop-again c =
     let s = d .before .before in
     let l = s .before .before .loop in
     let a = s .before .before .before .before .before .before .args in
-    let k = seen-most (a .key .now) (a .id) (a .recording) (a .image .now) (l .q) (s .seen-at .result) (seen.More (w .0) (w .1 .0)) (s .seen-at .ensures) (d .last .given .1) in
+    let k = seen-most (a .key .now) (a .id) (a .recording) (a .image .now) (l .q) (s .seen-at .result) (seen.More (w .0) (w .1 .0)) (omega arith) (s .seen-at .ensures) (d .last .given .1) in
     let v = view (a .key .now) (a .id) (a .recording) (a .image .now) in (
       omega arith,
       omega arith,

@@ -1,11 +1,11 @@
--- `reader::add_one` meets its contract: one count goes up, by the outcome.
+-- `survey::add_one` meets its contract: one count goes up, by the outcome.
 -- Assumes nothing.
 use borrow.Author.Needs.{needs}
 use mathlib.Core.Path.{sym, ap}
 use Rattle.reader.specs.declared.Outcome.{Outcome}
-use Rattle.reader.specs.Counting.{countedBy}
-use Rattle.reader.proofs.add_one.Statement.{statement}
-use Rattle.reader.proofs.add_one.Tie as tie
+use Rattle.survey.specs.Steps.{countedBy}
+use Rattle.survey.proofs.add_one.Statement.{statement}
+use Rattle.survey.proofs.add_one.Tie as tie
 
 enum-told : tie.Need-enum-told
 enum-told c = search needs

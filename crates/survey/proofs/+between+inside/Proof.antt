@@ -1,4 +1,4 @@
--- `reader::between` and `reader::inside` meet their contracts. Each hands the following block to the other or to itself; the measure is twice
+-- `survey::between` and `survey::inside` meet their contracts. Each hands the following block to the other or to itself; the measure is twice
 -- the blocks left, and one more inside a record.
 -- Assumes nothing.
 use borrow.Author.Needs.{needs}
@@ -10,23 +10,23 @@ use native.Mathlib.Omega.{arith}
 use borrow.Fn.Kinds.{In, Out}
 use Rattle.block.specs.Image.{view}
 use Rattle.block.specs.declared.Seen.the-variants as seen
 use Rattle.reader.specs.declared.Outcome.the-variants as o
-use Rattle.reader.specs.Counting.{countOn}
-use Rattle.reader.proofs.SpaceLaws.{seen-most}
-use Rattle.reader.proofs.CountLaws.{few-up, few-add, count-over, between-by, inside-by, inside-end}
-use Rattle.reader.proofs.add_one.Kinds as add-one-kinds
-use Rattle.reader.proofs.seen_at.Kinds as seen-at-kinds
+use Rattle.survey.specs.Steps.{countOn}
+use Rattle.survey.proofs.SpaceLaws.{seen-most}
+use Rattle.survey.proofs.CountLaws.{few-up, few-add, count-over, between-by, inside-by, inside-end}
+use Rattle.survey.proofs.add_one.Kinds as add-one-kinds
+use Rattle.survey.proofs.seen_at.Kinds as seen-at-kinds
 use borrow.Fn.PlainCycle.{Measures, is, falls, and}
-use Rattle.reader.proofs.between.Reads as between
-use Rattle.reader.proofs.between.Kinds as between-kinds
-use Rattle.reader.proofs.+between+inside.Lts-between as between-lts
-use Rattle.reader.proofs.inside.Reads as inside
-use Rattle.reader.proofs.inside.Kinds as inside-kinds
-use Rattle.reader.proofs.+between+inside.Lts-inside as inside-lts
-use Rattle.reader.proofs.add_one.Reads as add-one-reads
-use Rattle.reader.proofs.seen_at.Reads as seen-at-reads
-use Rattle.reader.proofs.+between+inside.{statement}
-use Rattle.reader.proofs.+between+inside.Tie.{close}
+use Rattle.survey.proofs.between.Reads as between
+use Rattle.survey.proofs.between.Kinds as between-kinds
+use Rattle.survey.proofs.+between+inside.Lts-between as between-lts
+use Rattle.survey.proofs.inside.Reads as inside
+use Rattle.survey.proofs.inside.Kinds as inside-kinds
+use Rattle.survey.proofs.+between+inside.Lts-inside as inside-lts
+use Rattle.survey.proofs.add_one.Reads as add-one-reads
+use Rattle.survey.proofs.seen_at.Reads as seen-at-reads
+use Rattle.survey.proofs.+between+inside.{statement}
+use Rattle.survey.proofs.+between+inside.Tie.{close}
 
 abbrev μ-between : Measures 2 between-kinds.ps ℕ
 μ-between κs a = 2 * (a .1 .1 .1 .1 .0 - a .1 .1 .1 .1 .1 .0)
@@ -253,7 +253,7 @@ inside-add-t25 : (t : ℕ) → inside-lts.Need-add-t25 (inside-callees t) (insid
 inside-add-t25 t c =
     let a = c .before .before .before .before .before .before .before .before .before .before .args in
     let j : c .before .before .before .before .before .before .if1 .end ≡ min (a .c) (a .p + 64) = ⊎-elim (λ w. w .1 ∙ omega arith) (λ w. w .1 ∙ omega arith) (c .before .before .before .before .before .before .if1 .came) in
-    let k = seen-most (a .key .now) (a .id) (a .recording) (a .image .now) (a .q) (c .before .before .before .before .seen-at .result) (seen.More (c .before .before .last .given .0 .0) (c .before .before .last .given .0 .1 .0)) (c .before .before .before .before .seen-at .ensures) (c .before .before .last .given .1) in
+    let k = seen-most (a .key .now) (a .id) (a .recording) (a .image .now) (a .q) (c .before .before .before .before .seen-at .result) (seen.More (c .before .before .last .given .0 .0) (c .before .before .last .given .0 .1 .0)) (omega arith) (c .before .before .before .before .seen-at .ensures) (c .before .before .last .given .1) in
     omega arith
 
 inside-add-one-requires-2 : (t : ℕ) → inside-lts.Need-add-one-requires-2 (inside-callees t) (inside-at t) inside.Post
