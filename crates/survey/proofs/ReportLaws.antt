@@ -23,63 +23,36 @@ tallied-adds F g a (x ∷ w) t =
     let j = a (x .says) t in
     omega arith
 
-adds-record : (x : Told) (t : Tally) → counted x t .records ≡ ofRecord x + t .records
-adds-record (Record b) t = omega arith
-adds-record Mark t = omega arith
-adds-record End t = omega arith
-adds-record Bad t = omega arith
-adds-record Stray t = omega arith
-adds-record (Cut q) t = omega arith
+-- ---- what an answer adds to each count, and to all of them together
+abbrev pub total : Tally → ℕ
+total t = t .records + t .marks + t .ends + t .bads + t .strays + t .cuts
 
-adds-mark : (x : Told) (t : Tally) → counted x t .marks ≡ ofMark x + t .marks
-adds-mark (Record b) t = omega arith
-adds-mark Mark t = omega arith
-adds-mark End t = omega arith
-adds-mark Bad t = omega arith
-adds-mark Stray t = omega arith
-adds-mark (Cut q) t = omega arith
+record Adds (x : Told) (t : Tally) : Type 0 where
+  records : counted x t .records ≡ ofRecord x + t .records
+  marks : counted x t .marks ≡ ofMark x + t .marks
+  ends : counted x t .ends ≡ ofEnd x + t .ends
+  bads : counted x t .bads ≡ ofBad x + t .bads
+  strays : counted x t .strays ≡ ofStray x + t .strays
+  cuts : counted x t .cuts ≡ ofCut x + t .cuts
+  all : total (counted x t) ≡ 1 + total t
 
-adds-end : (x : Told) (t : Tally) → counted x t .ends ≡ ofEnd x + t .ends
-adds-end (Record b) t = omega arith
-adds-end Mark t = omega arith
-adds-end End t = omega arith
-adds-end Bad t = omega arith
-adds-end Stray t = omega arith
-adds-end (Cut q) t = omega arith
-
-adds-bad : (x : Told) (t : Tally) → counted x t .bads ≡ ofBad x + t .bads
-adds-bad (Record b) t = omega arith
-adds-bad Mark t = omega arith
-adds-bad End t = omega arith
-adds-bad Bad t = omega arith
-adds-bad Stray t = omega arith
-adds-bad (Cut q) t = omega arith
-
-adds-stray : (x : Told) (t : Tally) → counted x t .strays ≡ ofStray x + t .strays
-adds-stray (Record b) t = omega arith
-adds-stray Mark t = omega arith
-adds-stray End t = omega arith
-adds-stray Bad t = omega arith
-adds-stray Stray t = omega arith
-adds-stray (Cut q) t = omega arith
-
-adds-cut : (x : Told) (t : Tally) → counted x t .cuts ≡ ofCut x + t .cuts
-adds-cut (Record b) t = omega arith
-adds-cut Mark t = omega arith
-adds-cut End t = omega arith
-adds-cut Bad t = omega arith
-adds-cut Stray t = omega arith
-adds-cut (Cut q) t = omega arith
+adds : (x : Told) (t : Tally) → Adds x t
+adds (Record b) t = record { records = omega arith; marks = omega arith; ends = omega arith; bads = omega arith; strays = omega arith; cuts = omega arith; all = omega arith }
+adds Mark t = record { records = omega arith; marks = omega arith; ends = omega arith; bads = omega arith; strays = omega arith; cuts = omega arith; all = omega arith }
+adds End t = record { records = omega arith; marks = omega arith; ends = omega arith; bads = omega arith; strays = omega arith; cuts = omega arith; all = omega arith }
+adds Bad t = record { records = omega arith; marks = omega arith; ends = omega arith; bads = omega arith; strays = omega arith; cuts = omega arith; all = omega arith }
+adds Stray t = record { records = omega arith; marks = omega arith; ends = omega arith; bads = omega arith; strays = omega arith; cuts = omega arith; all = omega arith }
+adds (Cut q) t = record { records = omega arith; marks = omega arith; ends = omega arith; bads = omega arith; strays = omega arith; cuts = omega arith; all = omega arith }
 
 pub tallied-counts : (w : List Visit) → Counts w (tallied w (none 0))
 tallied-counts w =
     record {
-      records = tallied-adds (λ t. t .records) ofRecord adds-record w (none 0) ∙ omega arith;
-      marks = tallied-adds (λ t. t .marks) ofMark adds-mark w (none 0) ∙ omega arith;
-      ends = tallied-adds (λ t. t .ends) ofEnd adds-end w (none 0) ∙ omega arith;
-      bads = tallied-adds (λ t. t .bads) ofBad adds-bad w (none 0) ∙ omega arith;
-      strays = tallied-adds (λ t. t .strays) ofStray adds-stray w (none 0) ∙ omega arith;
-      cuts = tallied-adds (λ t. t .cuts) ofCut adds-cut w (none 0) ∙ omega arith;
+      records = tallied-adds (λ t. t .records) ofRecord (λ x t. adds x t .records) w (none 0) ∙ omega arith;
+      marks = tallied-adds (λ t. t .marks) ofMark (λ x t. adds x t .marks) w (none 0) ∙ omega arith;
+      ends = tallied-adds (λ t. t .ends) ofEnd (λ x t. adds x t .ends) w (none 0) ∙ omega arith;
+      bads = tallied-adds (λ t. t .bads) ofBad (λ x t. adds x t .bads) w (none 0) ∙ omega arith;
+      strays = tallied-adds (λ t. t .strays) ofStray (λ x t. adds x t .strays) w (none 0) ∙ omega arith;
+      cuts = tallied-adds (λ t. t .cuts) ofCut (λ x t. adds x t .cuts) w (none 0) ∙ omega arith;
     }
 
 -- ---- the marks counted are the marks that spacing finds
@@ -97,17 +70,6 @@ marks-many [] = refl
 marks-many (x ∷ w) = ap (λ (n : ℕ). ofMark (x .says) + n) (marks-many w) ∙ marks-step (x .says) (x .at) (marksOf w)
 
 -- ---- all counts together
-abbrev pub total : Tally → ℕ
-total t = t .records + t .marks + t .ends + t .bads + t .strays + t .cuts
-
-adds-one : (x : Told) (t : Tally) → total (counted x t) ≡ 1 + total t
-adds-one (Record b) t = omega arith
-adds-one Mark t = omega arith
-adds-one End t = omega arith
-adds-one Bad t = omega arith
-adds-one Stray t = omega arith
-adds-one (Cut q) t = omega arith
-
 all-many : (w : List Visit) → howMany (λ x. 1) w ≡ length w
 unfolding howMany
 all-many [] = refl
@@ -125,7 +87,7 @@ module _ (key : List ℕ) (id recording : ℕ) (image : List ℕ) (e : reportNum
   pub report-total : total (reportOf key id recording image) ≡ length (walk (view key id recording image) (capacityOf image))
   report-total =
       ap total report-is
-      ∙ tallied-adds total (λ x. 1) adds-one (walk (view key id recording image) (capacityOf image)) (none 0)
+      ∙ tallied-adds total (λ x. 1) (λ x t. adds x t .all) (walk (view key id recording image) (capacityOf image)) (none 0)
       ∙ omega (arith, all-many (walk (view key id recording image) (capacityOf image)))
 
   pub report-most : total (reportOf key id recording image) ≤ capacityOf image

@@ -46,53 +46,32 @@ unfoldable pub howMany : (Told → ℕ) → List Visit → ℕ
 howMany g [] = 0
 howMany g (x ∷ xs) = g (x .says) + howMany g xs
 
+-- a number for each outcome, in the order Record, Mark, End, Bad, Stray, Cut
+abbrev pub byOutcome : ℕ → ℕ → ℕ → ℕ → ℕ → ℕ → Told → ℕ
+byOutcome r m e b s c (Record d) = r
+byOutcome r m e b s c Mark = m
+byOutcome r m e b s c End = e
+byOutcome r m e b s c Bad = b
+byOutcome r m e b s c Stray = s
+byOutcome r m e b s c (Cut q) = c
+
 abbrev pub ofRecord : Told → ℕ
-ofRecord (Record b) = 1
-ofRecord Mark = 0
-ofRecord End = 0
-ofRecord Bad = 0
-ofRecord Stray = 0
-ofRecord (Cut q) = 0
+ofRecord = byOutcome 1 0 0 0 0 0
 
 abbrev pub ofMark : Told → ℕ
-ofMark (Record b) = 0
-ofMark Mark = 1
-ofMark End = 0
-ofMark Bad = 0
-ofMark Stray = 0
-ofMark (Cut q) = 0
+ofMark = byOutcome 0 1 0 0 0 0
 
 abbrev pub ofEnd : Told → ℕ
-ofEnd (Record b) = 0
-ofEnd Mark = 0
-ofEnd End = 1
-ofEnd Bad = 0
-ofEnd Stray = 0
-ofEnd (Cut q) = 0
+ofEnd = byOutcome 0 0 1 0 0 0
 
 abbrev pub ofBad : Told → ℕ
-ofBad (Record b) = 0
-ofBad Mark = 0
-ofBad End = 0
-ofBad Bad = 1
-ofBad Stray = 0
-ofBad (Cut q) = 0
+ofBad = byOutcome 0 0 0 1 0 0
 
 abbrev pub ofStray : Told → ℕ
-ofStray (Record b) = 0
-ofStray Mark = 0
-ofStray End = 0
-ofStray Bad = 0
-ofStray Stray = 1
-ofStray (Cut q) = 0
+ofStray = byOutcome 0 0 0 0 1 0
 
 abbrev pub ofCut : Told → ℕ
-ofCut (Record b) = 0
-ofCut Mark = 0
-ofCut End = 0
-ofCut Bad = 0
-ofCut Stray = 0
-ofCut (Cut q) = 1
+ofCut = byOutcome 0 0 0 0 0 1
 
 -- the counts t are those of the visits w
 pub record Counts (w : List Visit) (t : Tally) : Type 0 where

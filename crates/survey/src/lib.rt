@@ -50,6 +50,16 @@ fn cut(q: usize, next: usize) -> Got
     }
 }
 
+// Where a record that begins at p ends at the latest: behind its 64th block, or at the end of the c blocks.
+fn record_end(p: usize, c: usize) -> usize
+    ensures { λ r. ⌜ r ≡ min c (p + 64) ⌝ }
+{
+    if c < LONGEST {
+        return c;
+    }
+    if c - LONGEST < p { c } else { p + LONGEST }
+}
+
 // The rest of a read: the record that begins at p goes on behind its first block, which has `used` bytes.
 fn answer_rest(
     key: &[u8],
@@ -63,7 +73,7 @@ fn answer_rest(
     requires { ⌜ (length (now key) ≡ 24) × ((p < c) × ((c * 512 ≤ length (now image)) × ((c ≤ 128) × (used ≤ 488)))) ⌝ }
     ensures { λ r. ⌜ r ≡ restBy (min (c - (p + 1)) 63) (view (now (key .entry)) id recording (now (image .entry))) (p + 1) used ⌝ }
 {
-    let end = if c < p + LONGEST { c } else { p + LONGEST };
+    let end = record_end(p, c);
     let mut held = used;
     let mut q = p + 1;
     while q < end {
@@ -257,7 +267,7 @@ fn between(key: &[u8], id: u32, recording: u64, image: &[u8], c: usize, p: usize
     }
 }
 
-// The report inside the record that began at p: block q is the next. `u` counts a Cut at q.
+// The report inside the record that began at p: block q is the next. `u` counts a Cut at q; how long a record is does not count.
 fn inside(
     key: &[u8],
     id: u32,
@@ -272,7 +282,7 @@ fn inside(
     ensures { λ r. ⌜ ((f : ℕ) (b : List ℕ) → c - q ≤ f → r ≡ after (gather (min c (p + 64) - q) (view (now (key .entry)) id recording (now (image .entry))) q b) t (countOn f (view (now (key .entry)) id recording (now (image .entry))) c)) ⌝ }
 {
     let u = add_one(t, Outcome::Cut(q));
-    let end = if c < p + LONGEST { c } else { p + LONGEST };
+    let end = record_end(p, c);
     if end <= q {
         return between(key, id, recording, image, c, q, u);
     }
@@ -280,7 +290,7 @@ fn inside(
         block::Seen::Shut => between(key, id, recording, image, c, q + 1, u),
         block::Seen::More(last, used) => {
             if last {
-                let w = add_one(t, Outcome::Record((q - p) * 488 + used));
+                let w = add_one(t, Outcome::Record(used));
                 between(key, id, recording, image, c, q + 1, w)
             } else {
                 inside(key, id, recording, image, c, p, q + 1, t)

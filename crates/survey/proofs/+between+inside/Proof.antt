@@ -2,9 +2,8 @@
 -- the blocks left, and one more inside a record.
 -- Assumes nothing.
 use borrow.Author.Needs.{needs}
-use mathlib.Core.Path.{_≡_, ap, _∙_}
+use mathlib.Core.Path.{ap, _∙_}
 use mathlib.Core.Bool.{Bool, true, false}
-use mathlib.Core.Logic.{⊎-elim}
 use Prim.Native.Nat.{ℕ, _+_, _-_, _*_, _<_, min}
 use native.Mathlib.Omega.{arith}
 use borrow.Fn.Kinds.{In, Out}
@@ -12,9 +11,9 @@ use Rattle.block.specs.Image.{view}
 use Rattle.block.specs.declared.Seen.the-variants as seen
 use Rattle.reader.specs.declared.Outcome.the-variants as o
 use Rattle.survey.specs.Steps.{countOn}
-use Rattle.survey.proofs.SpaceLaws.{seen-most}
 use Rattle.survey.proofs.CountLaws.{few-up, few-add, count-over, between-by, inside-by, inside-end}
 use Rattle.survey.proofs.add_one.Kinds as add-one-kinds
+use Rattle.survey.proofs.record_end.Kinds as record-end-kinds
 use Rattle.survey.proofs.seen_at.Kinds as seen-at-kinds
 use borrow.Fn.PlainCycle.{Measures, is, falls, and}
 use Rattle.survey.proofs.between.Reads as between
@@ -24,6 +23,7 @@ use Rattle.survey.proofs.inside.Reads as inside
 use Rattle.survey.proofs.inside.Kinds as inside-kinds
 use Rattle.survey.proofs.+between+inside.Lts-inside as inside-lts
 use Rattle.survey.proofs.add_one.Reads as add-one-reads
+use Rattle.survey.proofs.record_end.Reads as record-end-reads
 use Rattle.survey.proofs.seen_at.Reads as seen-at-reads
 use Rattle.survey.proofs.+between+inside.{statement}
 use Rattle.survey.proofs.+between+inside.Tie.{close}
@@ -50,8 +50,8 @@ inside-below t = and 2 inside-kinds.ps (falls 2 inside-kinds.ps _<_ μ-inside t)
 abbrev between-callees : (t : ℕ) → In 2 seen-at-kinds.ps × Out 2 seen-at-kinds.ps seen-at-kinds.r × In 0 add-one-kinds.ps × Out 0 add-one-kinds.ps add-one-kinds.r × In 2 between-kinds.ps × Out 2 between-kinds.ps between-kinds.r × In 2 inside-kinds.ps × Out 2 inside-kinds.ps inside-kinds.r
 between-callees t = (seen-at-reads.Asked, seen-at-reads.Learnt, add-one-reads.Asked, add-one-reads.Learnt, between-below t, between.Post, inside-below t, inside.Post)
 
-abbrev inside-callees : (t : ℕ) → In 0 add-one-kinds.ps × Out 0 add-one-kinds.ps add-one-kinds.r × In 2 between-kinds.ps × Out 2 between-kinds.ps between-kinds.r × In 2 seen-at-kinds.ps × Out 2 seen-at-kinds.ps seen-at-kinds.r × In 2 inside-kinds.ps × Out 2 inside-kinds.ps inside-kinds.r
-inside-callees t = (add-one-reads.Asked, add-one-reads.Learnt, between-below t, between.Post, seen-at-reads.Asked, seen-at-reads.Learnt, inside-below t, inside.Post)
+abbrev inside-callees : (t : ℕ) → In 0 add-one-kinds.ps × Out 0 add-one-kinds.ps add-one-kinds.r × In 0 record-end-kinds.ps × Out 0 record-end-kinds.ps record-end-kinds.r × In 2 between-kinds.ps × Out 2 between-kinds.ps between-kinds.r × In 2 seen-at-kinds.ps × Out 2 seen-at-kinds.ps seen-at-kinds.r × In 2 inside-kinds.ps × Out 2 inside-kinds.ps inside-kinds.r
+inside-callees t = (add-one-reads.Asked, add-one-reads.Learnt, record-end-reads.Asked, record-end-reads.Learnt, between-below t, between.Post, seen-at-reads.Asked, seen-at-reads.Learnt, inside-below t, inside.Post)
 
 between-returns : (t : ℕ) → between-lts.Need-returns (between-callees t) (between-at t) between.Post
 between-returns t c =
@@ -192,11 +192,8 @@ inside-add-one-requires : (t : ℕ) → inside-lts.Need-add-one-requires (inside
 inside-add-one-requires t c κs =
     few-up _ _ 256 (c .before .before .pre .1 .1 .1 .1 .1 .1) (omega arith)
 
-inside-add-if1 : (t : ℕ) → inside-lts.Need-add-if1 (inside-callees t) (inside-at t) inside.Post
-inside-add-if1 t c = omega arith
-
-inside-add-end : (t : ℕ) → inside-lts.Need-add-end (inside-callees t) (inside-at t) inside.Post
-inside-add-end t c = omega arith
+inside-record-end-requires : (t : ℕ) → inside-lts.Need-record-end-requires (inside-callees t) (inside-at t) inside.Post
+inside-record-end-requires t c κs = search needs
 
 inside-between-requires : (t : ℕ) → inside-lts.Need-between-requires (inside-callees t) (inside-at t) inside.Post
 inside-between-requires t c κs =
@@ -207,7 +204,6 @@ inside-between-requires t c κs =
 inside-returns : (t : ℕ) → inside-lts.Need-returns (inside-callees t) (inside-at t) inside.Post
 inside-returns t c =
     let a = c .before .before .before .before .before .before .args in
-    let j : c .before .before .if1 .end ≡ min (a .c) (a .p + 64) = ⊎-elim (λ w. w .1 ∙ omega arith) (λ w. w .1 ∙ omega arith) (c .before .before .if1 .came) in
     let v = view (a .key .now) (a .id) (a .recording) (a .image .now) in
     (λ f b h. c .between .ensures f h ∙ ap (countOn f v (a .c) (a .q)) (c .before .before .before .add-one .ensures)
     ∙ inside-end (min (a .c) (a .p + 64) - a .q) v (a .q) (a .t) (countOn f v (a .c)) b (omega arith))
@@ -215,7 +211,6 @@ inside-returns t c =
 inside-seen-at-requires : (t : ℕ) → inside-lts.Need-seen-at-requires (inside-callees t) (inside-at t) inside.Post
 inside-seen-at-requires t c κs =
     let a = c .before .before .before .before .before .args in
-    let j : c .before .if1 .end ≡ min (a .c) (a .p + 64) = ⊎-elim (λ w. w .1 ∙ omega arith) (λ w. w .1 ∙ omega arith) (c .before .if1 .came) in
     omega arith
 
 inside-enum-told : (t : ℕ) → inside-lts.Need-enum-told (inside-callees t) (inside-at t) inside.Post
@@ -224,37 +219,16 @@ inside-enum-told t c = search needs
 inside-add-between : (t : ℕ) → inside-lts.Need-add-between (inside-callees t) (inside-at t) inside.Post
 inside-add-between t c =
     let a = c .before .before .before .before .before .before .before .before .args in
-    let j : c .before .before .before .before .if1 .end ≡ min (a .c) (a .p + 64) = ⊎-elim (λ w. w .1 ∙ omega arith) (λ w. w .1 ∙ omega arith) (c .before .before .before .before .if1 .came) in
     omega arith
 
 inside-between-requires-2 : (t : ℕ) → inside-lts.Need-between-requires-2 (inside-callees t) (inside-at t) inside.Post
 inside-between-requires-2 t c κs =
     let a = c .before .before .before .before .before .before .before .before .args in
-    let j : c .before .before .before .before .if1 .end ≡ min (a .c) (a .p + 64) = ⊎-elim (λ w. w .1 ∙ omega arith) (λ w. w .1 ∙ omega arith) (c .before .before .before .before .if1 .came) in
     let h = c .before .before .before .before .before .before .before .before .pre .1 in
     (omega arith, (h .0, (omega arith, (h .1 .1 .1 .0, (h .1 .1 .1 .1 .0, few-add (o.Cut (a .q)) _ (a .t) _ _ (c .before .before .before .before .before .add-one .ensures) (h .1 .1 .1 .1 .1) (omega arith))))))
 
 inside-enum-known-last : (t : ℕ) → inside-lts.Need-enum-known-last (inside-callees t) (inside-at t) inside.Post
 inside-enum-known-last t c = search needs
-
-inside-sub-t23 : (t : ℕ) → inside-lts.Need-sub-t23 (inside-callees t) (inside-at t) inside.Post
-inside-sub-t23 t c =
-    let a = c .before .before .before .before .before .before .before .before .before .before .args in
-    let j : c .before .before .before .before .before .before .if1 .end ≡ min (a .c) (a .p + 64) = ⊎-elim (λ w. w .1 ∙ omega arith) (λ w. w .1 ∙ omega arith) (c .before .before .before .before .before .before .if1 .came) in
-    omega arith
-
-inside-mul-t24 : (t : ℕ) → inside-lts.Need-mul-t24 (inside-callees t) (inside-at t) inside.Post
-inside-mul-t24 t c =
-    let a = c .before .before .before .before .before .before .before .before .before .before .args in
-    let j : c .before .before .before .before .before .before .if1 .end ≡ min (a .c) (a .p + 64) = ⊎-elim (λ w. w .1 ∙ omega arith) (λ w. w .1 ∙ omega arith) (c .before .before .before .before .before .before .if1 .came) in
-    omega arith
-
-inside-add-t25 : (t : ℕ) → inside-lts.Need-add-t25 (inside-callees t) (inside-at t) inside.Post
-inside-add-t25 t c =
-    let a = c .before .before .before .before .before .before .before .before .before .before .args in
-    let j : c .before .before .before .before .before .before .if1 .end ≡ min (a .c) (a .p + 64) = ⊎-elim (λ w. w .1 ∙ omega arith) (λ w. w .1 ∙ omega arith) (c .before .before .before .before .before .before .if1 .came) in
-    let k = seen-most (a .key .now) (a .id) (a .recording) (a .image .now) (a .q) (c .before .before .before .before .seen-at .result) (seen.More (c .before .before .last .given .0 .0) (c .before .before .last .given .0 .1 .0)) (omega arith) (c .before .before .before .before .seen-at .ensures) (c .before .before .last .given .1) in
-    omega arith
 
 inside-add-one-requires-2 : (t : ℕ) → inside-lts.Need-add-one-requires-2 (inside-callees t) (inside-at t) inside.Post
 inside-add-one-requires-2 t c κs =
@@ -263,26 +237,22 @@ inside-add-one-requires-2 t c κs =
 inside-add-between-2 : (t : ℕ) → inside-lts.Need-add-between-2 (inside-callees t) (inside-at t) inside.Post
 inside-add-between-2 t c =
     let a = c .before .before .before .before .before .before .before .before .before .before .before .args in
-    let j : c .before .before .before .before .before .before .before .if1 .end ≡ min (a .c) (a .p + 64) = ⊎-elim (λ w. w .1 ∙ omega arith) (λ w. w .1 ∙ omega arith) (c .before .before .before .before .before .before .before .if1 .came) in
     omega arith
 
 inside-between-requires-3 : (t : ℕ) → inside-lts.Need-between-requires-3 (inside-callees t) (inside-at t) inside.Post
 inside-between-requires-3 t c κs =
     let a = c .before .before .before .before .before .before .before .before .before .before .before .args in
-    let j : c .before .before .before .before .before .before .before .if1 .end ≡ min (a .c) (a .p + 64) = ⊎-elim (λ w. w .1 ∙ omega arith) (λ w. w .1 ∙ omega arith) (c .before .before .before .before .before .before .before .if1 .came) in
     let h = c .before .before .before .before .before .before .before .before .before .before .before .pre .1 in
-    (omega arith, (h .0, (omega arith, (h .1 .1 .1 .0, (h .1 .1 .1 .1 .0, few-add (o.Record ((a .q - a .p) * 488 + c .before .before .before .last .given .0 .1 .0)) _ (a .t) _ _ (c .add-one2 .ensures) (h .1 .1 .1 .1 .1) (omega arith))))))
+    (omega arith, (h .0, (omega arith, (h .1 .1 .1 .0, (h .1 .1 .1 .1 .0, few-add (o.Record (c .before .before .before .last .given .0 .1 .0)) _ (a .t) _ _ (c .add-one2 .ensures) (h .1 .1 .1 .1 .1) (omega arith))))))
 
 inside-add-inside : (t : ℕ) → inside-lts.Need-add-inside (inside-callees t) (inside-at t) inside.Post
 inside-add-inside t c =
     let a = c .before .before .before .before .before .before .before .before .before .before .args in
-    let j : c .before .before .before .before .before .before .if1 .end ≡ min (a .c) (a .p + 64) = ⊎-elim (λ w. w .1 ∙ omega arith) (λ w. w .1 ∙ omega arith) (c .before .before .before .before .before .before .if1 .came) in
     omega arith
 
 inside-inside-requires : (t : ℕ) → inside-lts.Need-inside-requires (inside-callees t) (inside-at t) inside.Post
 inside-inside-requires t c κs =
     let a = c .before .before .before .before .before .before .before .before .before .before .args in
-    let j : c .before .before .before .before .before .before .if1 .end ≡ min (a .c) (a .p + 64) = ⊎-elim (λ w. w .1 ∙ omega arith) (λ w. w .1 ∙ omega arith) (c .before .before .before .before .before .before .if1 .came) in
     (omega arith, (omega arith, (omega arith, (omega arith, (omega arith, (omega arith, c .before .before .before .before .before .before .before .before .before .before .pre .1 .1 .1 .1 .1 .1))))))
 
 inside-enum-told-2 : (t : ℕ) → inside-lts.Need-enum-told-2 (inside-callees t) (inside-at t) inside.Post
@@ -291,7 +261,6 @@ inside-enum-told-2 t c = search needs
 inside-between-requires-4 : (t : ℕ) → inside-lts.Need-between-requires-4 (inside-callees t) (inside-at t) inside.Post
 inside-between-requires-4 t c κs =
     let a = c .before .before .before .before .before .before .before .before .args in
-    let j : c .before .before .before .before .if1 .end ≡ min (a .c) (a .p + 64) = ⊎-elim (λ w. w .1 ∙ omega arith) (λ w. w .1 ∙ omega arith) (c .before .before .before .before .if1 .came) in
     let h = c .before .before .before .before .before .before .before .before .pre .1 in
     (omega arith, (h .0, (omega arith, (h .1 .1 .1 .0, (h .1 .1 .1 .1 .0, few-add (o.Cut (a .q)) _ (a .t) _ _ (c .before .before .before .before .before .add-one .ensures) (h .1 .1 .1 .1 .1) (omega arith))))))
 
@@ -301,7 +270,6 @@ inside-enum-told-3 t c = search needs
 inside-between-requires-5 : (t : ℕ) → inside-lts.Need-between-requires-5 (inside-callees t) (inside-at t) inside.Post
 inside-between-requires-5 t c κs =
     let a = c .before .before .before .before .before .before .before .before .args in
-    let j : c .before .before .before .before .if1 .end ≡ min (a .c) (a .p + 64) = ⊎-elim (λ w. w .1 ∙ omega arith) (λ w. w .1 ∙ omega arith) (c .before .before .before .before .if1 .came) in
     let h = c .before .before .before .before .before .before .before .before .pre .1 in
     (omega arith, (h .0, (omega arith, (h .1 .1 .1 .0, (h .1 .1 .1 .1 .0, few-add (o.Cut (a .q)) _ (a .t) _ _ (c .before .before .before .before .before .add-one .ensures) (h .1 .1 .1 .1 .1) (omega arith))))))
 
@@ -311,14 +279,12 @@ inside-enum-told-4 t c = search needs
 inside-between-requires-6 : (t : ℕ) → inside-lts.Need-between-requires-6 (inside-callees t) (inside-at t) inside.Post
 inside-between-requires-6 t c κs =
     let a = c .before .before .before .before .before .before .before .before .args in
-    let j : c .before .before .before .before .if1 .end ≡ min (a .c) (a .p + 64) = ⊎-elim (λ w. w .1 ∙ omega arith) (λ w. w .1 ∙ omega arith) (c .before .before .before .before .if1 .came) in
     let h = c .before .before .before .before .before .before .before .before .pre .1 in
     (omega arith, (h .0, (omega arith, (h .1 .1 .1 .0, (h .1 .1 .1 .1 .0, few-add (o.Cut (a .q)) _ (a .t) _ _ (c .before .before .before .before .before .add-one .ensures) (h .1 .1 .1 .1 .1) (omega arith))))))
 
 inside-returns-2 : (t : ℕ) → inside-lts.Need-returns-2 (inside-callees t) (inside-at t) inside.Post
 inside-returns-2 t c =
     let a = c .before .before .before .before .before .before .before .before .before .args in
-    let j : c .before .before .before .before .before .if1 .end ≡ min (a .c) (a .p + 64) = ⊎-elim (λ w. w .1 ∙ omega arith) (λ w. w .1 ∙ omega arith) (c .before .before .before .before .before .if1 .came) in
     let v = view (a .key .now) (a .id) (a .recording) (a .image .now) in
     let s = c .before .before .before .seen-at in
     (λ f b h. inside-by (min (a .c) (a .p + 64)) v (a .q) (a .t) (countOn f v (a .c)) (c .between2 .result) (omega arith) (s .result) (seen.Shut) (s .ensures) (c .before .enum-told .given .1)
@@ -327,25 +293,22 @@ inside-returns-2 t c =
 inside-returns-3 : (t : ℕ) → inside-lts.Need-returns-3 (inside-callees t) (inside-at t) inside.Post
 inside-returns-3 t c =
     let a = c .before .before .before .before .before .before .before .before .before .before .before .before .args in
-    let j : c .before .before .before .before .before .before .before .before .if1 .end ≡ min (a .c) (a .p + 64) = ⊎-elim (λ w. w .1 ∙ omega arith) (λ w. w .1 ∙ omega arith) (c .before .before .before .before .before .before .before .before .if1 .came) in
     let v = view (a .key .now) (a .id) (a .recording) (a .image .now) in
     let s = c .before .before .before .before .before .before .seen-at in
-    (λ f b h. inside-by (min (a .c) (a .p + 64)) v (a .q) (a .t) (countOn f v (a .c)) (c .between3 .result) (omega arith) (s .result) (seen.More true (c .before .before .before .before .last .given .0 .1 .0)) (s .ensures) (c .before .before .before .before .last .given .1 ∙ ap (λ (b : Bool). seen.More b (c .before .before .before .before .last .given .0 .1 .0)) (c .before .before .if3 .taken))
+    (λ f b h. inside-by (min (a .c) (a .p + 64)) v (a .q) (a .t) (countOn f v (a .c)) (c .between3 .result) (omega arith) (s .result) (seen.More true (c .before .before .before .before .last .given .0 .1 .0)) (s .ensures) (c .before .before .before .before .last .given .1 ∙ ap (λ (b : Bool). seen.More b (c .before .before .before .before .last .given .0 .1 .0)) (c .before .before .if2 .taken))
     (c .between3 .ensures f (omega arith) ∙ ap (countOn f v (a .c) (a .q + 1)) (c .before .add-one2 .ensures)) b)
 
 inside-returns-4 : (t : ℕ) → inside-lts.Need-returns-4 (inside-callees t) (inside-at t) inside.Post
 inside-returns-4 t c =
     let a = c .before .before .before .before .before .before .before .before .before .before .before .args in
-    let j : c .before .before .before .before .before .before .before .if1 .end ≡ min (a .c) (a .p + 64) = ⊎-elim (λ w. w .1 ∙ omega arith) (λ w. w .1 ∙ omega arith) (c .before .before .before .before .before .before .before .if1 .came) in
     let v = view (a .key .now) (a .id) (a .recording) (a .image .now) in
     let s = c .before .before .before .before .before .seen-at in
-    (λ f b h. inside-by (min (a .c) (a .p + 64)) v (a .q) (a .t) (countOn f v (a .c)) (c .inside .result) (omega arith) (s .result) (seen.More false (c .before .before .before .last .given .0 .1 .0)) (s .ensures) (c .before .before .before .last .given .1 ∙ ap (λ (b : Bool). seen.More b (c .before .before .before .last .given .0 .1 .0)) (c .before .if3 .left))
+    (λ f b h. inside-by (min (a .c) (a .p + 64)) v (a .q) (a .t) (countOn f v (a .c)) (c .inside .result) (omega arith) (s .result) (seen.More false (c .before .before .before .last .given .0 .1 .0)) (s .ensures) (c .before .before .before .last .given .1 ∙ ap (λ (b : Bool). seen.More b (c .before .before .before .last .given .0 .1 .0)) (c .before .if2 .left))
     (λ d. c .inside .ensures f d (omega arith)) b)
 
 inside-returns-5 : (t : ℕ) → inside-lts.Need-returns-5 (inside-callees t) (inside-at t) inside.Post
 inside-returns-5 t c =
     let a = c .before .before .before .before .before .before .before .before .before .args in
-    let j : c .before .before .before .before .before .if1 .end ≡ min (a .c) (a .p + 64) = ⊎-elim (λ w. w .1 ∙ omega arith) (λ w. w .1 ∙ omega arith) (c .before .before .before .before .before .if1 .came) in
     let v = view (a .key .now) (a .id) (a .recording) (a .image .now) in
     let s = c .before .before .before .seen-at in
     (λ f b h. inside-by (min (a .c) (a .p + 64)) v (a .q) (a .t) (countOn f v (a .c)) (c .between4 .result) (omega arith) (s .result) (seen.First (c .before .enum-told2 .given .0 .0) (c .before .enum-told2 .given .0 .1 .0)) (s .ensures) (c .before .enum-told2 .given .1)
@@ -354,7 +317,6 @@ inside-returns-5 t c =
 inside-returns-6 : (t : ℕ) → inside-lts.Need-returns-6 (inside-callees t) (inside-at t) inside.Post
 inside-returns-6 t c =
     let a = c .before .before .before .before .before .before .before .before .before .args in
-    let j : c .before .before .before .before .before .if1 .end ≡ min (a .c) (a .p + 64) = ⊎-elim (λ w. w .1 ∙ omega arith) (λ w. w .1 ∙ omega arith) (c .before .before .before .before .before .if1 .came) in
     let v = view (a .key .now) (a .id) (a .recording) (a .image .now) in
     let s = c .before .before .before .seen-at in
     (λ f b h. inside-by (min (a .c) (a .p + 64)) v (a .q) (a .t) (countOn f v (a .c)) (c .between5 .result) (omega arith) (s .result) (seen.Mark) (s .ensures) (c .before .enum-told3 .given .1)
@@ -363,7 +325,6 @@ inside-returns-6 t c =
 inside-returns-7 : (t : ℕ) → inside-lts.Need-returns-7 (inside-callees t) (inside-at t) inside.Post
 inside-returns-7 t c =
     let a = c .before .before .before .before .before .before .before .before .before .args in
-    let j : c .before .before .before .before .before .if1 .end ≡ min (a .c) (a .p + 64) = ⊎-elim (λ w. w .1 ∙ omega arith) (λ w. w .1 ∙ omega arith) (c .before .before .before .before .before .if1 .came) in
     let v = view (a .key .now) (a .id) (a .recording) (a .image .now) in
     let s = c .before .before .before .seen-at in
     (λ f b h. inside-by (min (a .c) (a .p + 64)) v (a .q) (a .t) (countOn f v (a .c)) (c .between6 .result) (omega arith) (s .result) (seen.End) (s .ensures) (c .before .enum-told4 .given .1)
@@ -405,8 +366,7 @@ pub +between+inside-spec : {M : Type 1} → statement M
     (inside-at t)
     inside.Post
     (inside-add-one-requires t)
-    (inside-add-if1 t)
-    (inside-add-end t)
+    (inside-record-end-requires t)
     (inside-between-requires t)
     (inside-returns t)
     (inside-seen-at-requires t)
@@ -414,9 +374,6 @@ pub +between+inside-spec : {M : Type 1} → statement M
     (inside-add-between t)
     (inside-between-requires-2 t)
     (inside-enum-known-last t)
-    (inside-sub-t23 t)
-    (inside-mul-t24 t)
-    (inside-add-t25 t)
     (inside-add-one-requires-2 t)
     (inside-add-between-2 t)
     (inside-between-requires-3 t)

@@ -3,15 +3,15 @@
 use borrow.Author.Needs.{needs}
 use mathlib.Core.Path.{_≡_, sym, ap, _∙_}
 use mathlib.Core.Bool.{Bool, true, false}
-use mathlib.Core.Logic.{⊎-elim}
-use Prim.Native.Nat.{ℕ, _+_, _-_, _*_, _≤_, min}
+use Prim.Native.Nat.{ℕ, _+_, _-_, _*_, _≤_, _<_, min}
 use native.Mathlib.Numerals.{add-one}
 use native.Mathlib.Omega.{arith}
 use Rattle.block.specs.Image.{view}
+use Rattle.block.specs.declared.Seen.{Seen}
 use Rattle.block.specs.declared.Seen.the-variants as seen
 use Rattle.reader.specs.declared.Outcome.the-variants as o
-use Rattle.survey.specs.Steps.{got, cutAt, restBy}
-use Rattle.survey.proofs.SpaceLaws.{seen-most, rest-on, rest-end}
+use Rattle.survey.specs.Steps.{got, cutAt, insideBy, restBy}
+use Rattle.survey.proofs.SpaceLaws.{usedIn, seen-most, rest-on, rest-end}
 use Rattle.survey.proofs.answer_rest.Statement.{statement}
 use Rattle.survey.proofs.answer_rest.Tie as tie
 
@@ -23,11 +23,8 @@ Inv-loop key id recording image p c used end held₀ q₀ held q =
 abbrev μ-loop : tie.MeasureT-loop
 μ-loop key id recording image p c used end held₀ q₀ held q = end - q
 
-add-if1 : tie.Need-add-if1 Inv-loop μ-loop
-add-if1 c = omega arith
-
-add-end : tie.Need-add-end Inv-loop μ-loop
-add-end c = omega arith
+record-end-requires : tie.Need-record-end-requires Inv-loop μ-loop
+record-end-requires c κs = search needs
 
 add-q : tie.Need-add-q Inv-loop μ-loop
 add-q c = omega arith
@@ -35,12 +32,31 @@ add-q c = omega arith
 loop-holds : tie.Need-loop-holds Inv-loop μ-loop
 loop-holds c =
     let a = c .before .before .before .args in
-    let e : c .if1 .end ≡ min (a .c) (a .p + 64) = ⊎-elim (λ w. w .1 ∙ omega arith) (λ w. w .1 ∙ omega arith) (c .if1 .came) in
-    let k : c .if1 .end - (a .p + 1) ≡ min (a .c - (a .p + 1)) 63 = omega arith in
+    let e = c .record-end .ensures in
+    let k : c .record-end .result - (a .p + 1) ≡ min (a .c - (a .p + 1)) 63 = omega arith in
     (omega arith, omega arith, e, omega arith, ap (λ (n : ℕ). restBy n (view (a .key .now) (a .id) (a .recording) (a .image .now)) (a .p + 1) (a .used)) k)
 
 seen-at-requires : tie.Need-seen-at-requires Inv-loop μ-loop
 seen-at-requires c κs = search needs
+
+-- one turn, with its block seen as x
+module _ (c : tie.After-seen-at Inv-loop μ-loop) (x : Seen) (e : c .seen-at .result ≡ x) where
+  turn-used : usedIn x ≤ 488
+  turn-used =
+      let l = c .before .before .loop in
+      let a = c .before .before .before .before .before .before .args in
+      let i : l .q < c .before .before .before .record-end .result = c .before .loop-test .taken in
+      let j : c .before .before .before .record-end .result ≡ min (a .c) (a .p + 64) = l .inv .2 in
+      seen-most (a .key .now) (a .id) (a .recording) (a .image .now) (l .q) (c .seen-at .result) x (omega arith) (c .seen-at .ensures) e
+
+  turn-rest : let l = c .before .before .loop in
+      let a = c .before .before .before .before .before .before .args in
+      let v = view (a .key .now) (a .id) (a .recording) (a .image .now) in
+      insideBy x (l .q) (l .held) (λ n. restBy (c .before .before .before .record-end .result - (l .q + 1)) v (l .q + 1) n) ≡ restBy (min (a .c - (a .p + 1)) 63) v (a .p + 1) (a .used)
+  turn-rest =
+      let l = c .before .before .loop in
+      let a = c .before .before .before .before .before .before .args in
+      rest-on (c .before .before .before .record-end .result) (view (a .key .now) (a .id) (a .recording) (a .image .now)) (l .q) (l .held) (c .seen-at .result) x (c .before .loop-test .taken) (c .seen-at .ensures) e ∙ l .inv .4
 
 enum-told : tie.Need-enum-told Inv-loop μ-loop
 enum-told c = search needs
@@ -55,25 +71,21 @@ returns : tie.Need-returns Inv-loop μ-loop
 returns c =
     let s = c .before .before .before in
     let l = s .before .before .loop in
-    let a = s .before .before .before .before .before .before .args in
-    let v = view (a .key .now) (a .id) (a .recording) (a .image .now) in
-    c .cut .ensures ∙ ap (cutAt (l .q)) (add-one (l .q)) ∙ rest-on _ v (l .q) (l .held) (s .seen-at .result) (seen.Shut) (s .before .loop-test .taken) (s .seen-at .ensures) (c .before .enum-told .given .1) ∙ l .inv .4
+    c .cut .ensures ∙ ap (cutAt (l .q)) (add-one (l .q)) ∙ turn-rest s seen.Shut (c .before .enum-told .given .1)
 
 enum-known-last : tie.Need-enum-known-last Inv-loop μ-loop
 enum-known-last c = search needs
 
-add-t20 : tie.Need-add-t20 Inv-loop μ-loop
-add-t20 c =
+add-t17 : tie.Need-add-t17 Inv-loop μ-loop
+add-t17 c =
     let d = c .before .before in
     let w = d .last .given .0 in
     let s = d .before .before in
-    let l = s .before .before .loop in
-    let a = s .before .before .before .before .before .before .args in
-    let k = seen-most (a .key .now) (a .id) (a .recording) (a .image .now) (l .q) (s .seen-at .result) (seen.More (w .0) (w .1 .0)) (omega arith) (s .seen-at .ensures) (d .last .given .1) in
+    let k = turn-used s (seen.More (w .0) (w .1 .0)) (d .last .given .1) in
     omega arith
 
-add-t22 : tie.Need-add-t22 Inv-loop μ-loop
-add-t22 c = omega arith
+add-t19 : tie.Need-add-t19 Inv-loop μ-loop
+add-t19 c = omega arith
 
 returns-2 : tie.Need-returns-2 Inv-loop μ-loop
 returns-2 c =
@@ -81,19 +93,15 @@ returns-2 c =
     let w = d .last .given .0 in
     let s = d .before .before in
     let l = s .before .before .loop in
-    let a = s .before .before .before .before .before .before .args in
-    let v = view (a .key .now) (a .id) (a .recording) (a .image .now) in
     ap (got (o.Record (l .held + w .1 .0))) (add-one (l .q))
-    ∙ rest-on _ v (l .q) (l .held) (s .seen-at .result) (seen.More true (w .1 .0)) (s .before .loop-test .taken) (s .seen-at .ensures) (d .last .given .1 ∙ ap (λ (b : Bool). seen.More b (w .1 .0)) (c .if2 .taken)) ∙ l .inv .4
+    ∙ turn-rest s (seen.More true (w .1 .0)) (d .last .given .1 ∙ ap (λ (b : Bool). seen.More b (w .1 .0)) (c .if1 .taken))
 
 add-held : tie.Need-add-held Inv-loop μ-loop
 add-held c =
     let d = c .before .before in
     let w = d .last .given .0 in
     let s = d .before .before in
-    let l = s .before .before .loop in
-    let a = s .before .before .before .before .before .before .args in
-    let k = seen-most (a .key .now) (a .id) (a .recording) (a .image .now) (l .q) (s .seen-at .result) (seen.More (w .0) (w .1 .0)) (omega arith) (s .seen-at .ensures) (d .last .given .1) in
+    let k = turn-used s (seen.More (w .0) (w .1 .0)) (d .last .given .1) in
     omega arith
 
 enum-told-2 : tie.Need-enum-told-2 Inv-loop μ-loop
@@ -105,10 +113,7 @@ cut-requires-2 c κs = search needs
 returns-3 : tie.Need-returns-3 Inv-loop μ-loop
 returns-3 c =
     let s = c .before .before .before in
-    let l = s .before .before .loop in
-    let a = s .before .before .before .before .before .before .args in
-    let v = view (a .key .now) (a .id) (a .recording) (a .image .now) in
-    c .cut2 .ensures ∙ rest-on _ v (l .q) (l .held) (s .seen-at .result) (seen.First (c .before .enum-told2 .given .0 .0) (c .before .enum-told2 .given .0 .1 .0)) (s .before .loop-test .taken) (s .seen-at .ensures) (c .before .enum-told2 .given .1) ∙ l .inv .4
+    c .cut2 .ensures ∙ turn-rest s (seen.First (c .before .enum-told2 .given .0 .0) (c .before .enum-told2 .given .0 .1 .0)) (c .before .enum-told2 .given .1)
 
 enum-told-3 : tie.Need-enum-told-3 Inv-loop μ-loop
 enum-told-3 c = search needs
@@ -119,10 +124,7 @@ cut-requires-3 c κs = search needs
 returns-4 : tie.Need-returns-4 Inv-loop μ-loop
 returns-4 c =
     let s = c .before .before .before in
-    let l = s .before .before .loop in
-    let a = s .before .before .before .before .before .before .args in
-    let v = view (a .key .now) (a .id) (a .recording) (a .image .now) in
-    c .cut3 .ensures ∙ rest-on _ v (l .q) (l .held) (s .seen-at .result) (seen.Mark) (s .before .loop-test .taken) (s .seen-at .ensures) (c .before .enum-told3 .given .1) ∙ l .inv .4
+    c .cut3 .ensures ∙ turn-rest s seen.Mark (c .before .enum-told3 .given .1)
 
 enum-told-4 : tie.Need-enum-told-4 Inv-loop μ-loop
 enum-told-4 c = search needs
@@ -133,10 +135,7 @@ cut-requires-4 c κs = search needs
 returns-5 : tie.Need-returns-5 Inv-loop μ-loop
 returns-5 c =
     let s = c .before .before .before in
-    let l = s .before .before .loop in
-    let a = s .before .before .before .before .before .before .args in
-    let v = view (a .key .now) (a .id) (a .recording) (a .image .now) in
-    c .cut4 .ensures ∙ rest-on _ v (l .q) (l .held) (s .seen-at .result) (seen.End) (s .before .loop-test .taken) (s .seen-at .ensures) (c .before .enum-told4 .given .1) ∙ l .inv .4
+    c .cut4 .ensures ∙ turn-rest s seen.End (c .before .enum-told4 .given .1)
 
 add-q-2 : tie.Need-add-q-2 Inv-loop μ-loop
 add-q-2 c = omega arith
@@ -150,14 +149,12 @@ loop-again c =
     let w = d .last .given .0 in
     let s = d .before .before in
     let l = s .before .before .loop in
-    let a = s .before .before .before .before .before .before .args in
-    let k = seen-most (a .key .now) (a .id) (a .recording) (a .image .now) (l .q) (s .seen-at .result) (seen.More (w .0) (w .1 .0)) (omega arith) (s .seen-at .ensures) (d .last .given .1) in
-    let v = view (a .key .now) (a .id) (a .recording) (a .image .now) in (
+    let k = turn-used s (seen.More (w .0) (w .1 .0)) (d .last .given .1) in (
       omega arith,
       omega arith,
       l .inv .2,
       omega arith,
-      rest-on _ v (l .q) (l .held) (s .seen-at .result) (seen.More false (w .1 .0)) (s .before .loop-test .taken) (s .seen-at .ensures) (d .last .given .1 ∙ ap (λ (b : Bool). seen.More b (w .1 .0)) (c .if2 .left)) ∙ l .inv .4,
+      turn-rest s (seen.More false (w .1 .0)) (d .last .given .1 ∙ ap (λ (b : Bool). seen.More b (w .1 .0)) (c .if1 .left)),
     )
 
 cut-requires-5 : tie.Need-cut-requires-5 Inv-loop μ-loop
@@ -175,8 +172,7 @@ answer-rest-spec =
     (tie.spec
     Inv-loop
     μ-loop
-    add-if1
-    add-end
+    record-end-requires
     add-q
     loop-holds
     seen-at-requires
@@ -185,8 +181,8 @@ answer-rest-spec =
     cut-requires
     returns
     enum-known-last
-    add-t20
-    add-t22
+    add-t17
+    add-t19
     returns-2
     add-held
     enum-told-2
