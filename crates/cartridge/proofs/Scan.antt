@@ -1,20 +1,19 @@
 -- What a walk hands out is what a read at each place in turn would hand out, up to the first end of data: a walk passes over
 -- nothing but blocks at which a read answers Bad or Stray. This holds of every view.
 -- Assumes nothing.
-use mathlib.Core.Path.{_≡_, refl, sym, ap, _∙_, subst}
+use mathlib.Core.Path.{_≡_, refl, sym, ap, _∙_}
 use mathlib.Core.Bool.{Bool, true, false, true≢false}
-use mathlib.Core.List.{List, [], _∷_, _++_}
-use Prim.Native.Nat.{ℕ, zero, suc, _+_, _-_, _≤_, _<_, min}
-use native.Mathlib.Nat.{not-suc-le-zero, le-refl, add-suc, suc-add}
+use mathlib.Core.List.{List, [], _++_}
+use Prim.Native.Nat.{ℕ, zero, suc, _+_, _-_, _≤_, min}
+use native.Mathlib.Nat.{le-refl}
 use native.Mathlib.Omega.{arith}
-use borrow.Author.Tests.{ltb-true, ltb-false, lt-ltb, le-ltb}
-use lib.Dec.{ltb}
-use lib.ListN.{length}
+use borrow.Author.Tests.{lt-ltb, le-ltb}
 use Rattle.laws.specs.Choose.{pick}
-use Rattle.block.specs.Content.{Head, first, mark, eod, Content, shut, more, head}
+use Rattle.block.specs.Content.{first, mark, eod, Content, shut, more, head}
 use Rattle.block.specs.Image.{View}
-use Rattle.reader.specs.Walk.{Told, Record, Mark, End, Bad, Stray, Cut, isEnd, Answer, answer, inside, gather, begins, between, readAt, Visit, visit, walkFrom, walk}
-use Rattle.cartridge.specs.Handed.{Handed, hand, given, handed}
+use Rattle.reader.specs.Walk.{isEnd, inside, gather, between, readAt, walkFrom, walk}
+use Rattle.reader.proofs.WalkLaws.{read-onward}
+use Rattle.cartridge.specs.Handed.{Handed, given, handed}
 
 -- what reads at n places from p on hand out
 abbrev pub scan : ℕ → View → ℕ → ℕ → List Handed
@@ -49,37 +48,29 @@ scan-gap {v} {e} here c n m hn hm = let h : n ≡ m = omega arith in rw h
 scan-gap {v} {e} (step {q = q} k g) c zero m hn hm = let l = gap-le g in absurd (omega arith)
 scan-gap {v} {e} (step {q = q} k g) c (suc n) m hn hm = quiet-scan v c q n k ∙ scan-gap g c n m (omega arith) hm
 
--- ---- a record's read, from its block q on, passes over quiet blocks alone, and over `room` of them at the most
-pub record Passed (v : View) (q room : ℕ) (r : Answer) : Type 0 where
-  pub passes : Gap v (r .next) q
-  pub stays : r .next ≤ q + room
-
-pub gather-passed : (room : ℕ) (v : View) (q : ℕ) (before : List ℕ) → Passed v q room (gather room v q before)
+-- ---- a record's read, from its block q on, passes over quiet blocks alone
+gather-gap : (room : ℕ) (v : View) (q : ℕ) (before : List ℕ) → Gap v (gather room v q before .next) q
 unfolding gather
-gather-passed zero v q before = record { passes = here; stays = omega arith }
-gather-passed (suc room) v q before = go (v q) refl (λ b. gather-passed room v (suc q) b)
+gather-gap zero v q before = here
+gather-gap (suc room) v q before = go (v q) refl (λ b. gather-gap room v (suc q) b)
   where
-    go : (o : Content) → v q ≡ o → ((b : List ℕ) → Passed v (suc q) room (gather room v (suc q) b)) → Passed v q (suc room) (inside o q before (λ b. gather room v (suc q) b))
-    go shut e ih = record { passes = step {q = q} (rw e tt) here; stays = omega arith }
-    go (more true b) e ih = record { passes = step {q = q} (rw e tt) here; stays = omega arith }
-    go (more false b) e ih = let t = ih (before ++ b) in record { passes = step {q = q} (rw e tt) (t .passes); stays = let s = t .stays in omega arith }
-    go (head h) e ih = record { passes = here; stays = omega arith }
+    go : (o : Content) → v q ≡ o → ((b : List ℕ) → Gap v (gather room v (suc q) b .next) (suc q)) → Gap v (inside o q before (λ b. gather room v (suc q) b) .next) q
+    go shut e ih = step {q = q} (rw e tt) here
+    go (more true b) e ih = step {q = q} (rw e tt) here
+    go (more false b) e ih = step {q = q} (rw e tt) (ih (before ++ b))
+    go (head h) e ih = here
 
--- ---- a read that is no End goes on
-pub record Onward (v : View) (c p : ℕ) (r : Answer) : Type 0 where
-  pub passes : Gap v (r .next) (suc p)
-  pub stays : r .next ≤ c
-
-pub read-onward : (v : View) (c p : ℕ) → p < c → isEnd (readAt v c p .told) ≡ false → Onward v c p (readAt v c p)
+-- so does a read that is no End, behind its first block
+read-gap : (v : View) (c p : ℕ) → isEnd (readAt v c p .told) ≡ false → Gap v (readAt v c p .next) (suc p)
 unfolding readAt
-read-onward v c p h = go (v p)
+read-gap v c p = go (v p)
   where
-    go : (o : Content) → isEnd (between o v c p .told) ≡ false → Onward v c p (between o v c p)
-    go shut k = record { passes = here; stays = h }
-    go (more l b) k = record { passes = here; stays = h }
-    go (head (first true b)) k = record { passes = here; stays = h }
-    go (head (first false b)) k = let t = gather-passed (min (c - suc p) 63) v (suc p) b in record { passes = t .passes; stays = let s = t .stays in omega arith }
-    go (head mark) k = record { passes = here; stays = h }
+    go : (o : Content) → isEnd (between o v c p .told) ≡ false → Gap v (between o v c p .next) (suc p)
+    go shut k = here
+    go (more l b) k = here
+    go (head (first true b)) k = here
+    go (head (first false b)) k = gather-gap (min (c - suc p) 63) v (suc p) b
+    go (head mark) k = here
     go (head eod) k = absurd (true≢false k)
 
 -- ---- the walk from p, with enough reads
@@ -96,28 +87,12 @@ walk-scan-from (suc n) v c p (suc m) e h =
     go true k ih = refl
     go false k ih =
         let o = read-onward v c p (omega arith) k in
-        let s : readAt v c p .next ≤ c = o .stays in
-        let g = gap-le (o .passes) in
+        let s = o .stays in
+        let g = o .passes in
         let r : ℕ = c - readAt v c p .next in
         ap (λ (l : List Handed). given p (readAt v c p .told) ++ l)
-        (ih r (omega arith) (omega arith) ∙ sym (scan-gap (o .passes) c m r (omega arith) (omega arith)))
+        (ih r (omega arith) (omega arith) ∙ sym (scan-gap (read-gap v c p k) c m r (omega arith) (omega arith)))
 
 pub walk-scan : (v : View) (c : ℕ) → handed (walk v c) ≡ scan c v c 0
 unfolding walk
 walk-scan v c = walk-scan-from c v c 0 c (omega arith) (omega arith)
-
--- no more reads than there are blocks: each of the n that may be made is one
-pub walk-few : (n : ℕ) (v : View) (c p : ℕ) → length (walkFrom n v c p) ≤ n
-unfolding walkFrom
-walk-few zero v c p = omega arith
-walk-few (suc n) v c p = go (ltb p c) (isEnd (readAt v c p .told)) (walk-few n v c (readAt v c p .next))
-  where
-    go : (a b : Bool) → length (walkFrom n v c (readAt v c p .next)) ≤ n
-        → length (pick a (visit p (readAt v c p .told) ∷ pick b [] (walkFrom n v c (readAt v c p .next))) []) ≤ suc n
-    go false b h = omega arith
-    go true true h = omega arith
-    go true false h = omega arith
-
-pub walk-length : (v : View) (c : ℕ) → length (walk v c) ≤ c
-unfolding walk
-walk-length v c = walk-few c v c 0

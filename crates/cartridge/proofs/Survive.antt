@@ -11,9 +11,10 @@ use Rattle.block.specs.Content.{Content, Shut}
 use Rattle.block.specs.Image.{View}
 use Rattle.writer.specs.Items.{Item}
 use Rattle.reader.specs.Walk.{walk}
+use Rattle.reader.proofs.WalkLaws.{walk-length}
 use Rattle.cartridge.specs.Handed.{handed}
 use Rattle.cartridge.specs.Recovered.{intact}
-use Rattle.cartridge.proofs.Scan.{walk-scan, walk-length}
+use Rattle.cartridge.proofs.Scan.{walk-scan}
 use Rattle.cartridge.proofs.Laid.{Now, Seen, Stands, Blank, AllSound, sizes, closed, scan-closed, length-closed}
 
 -- w is v, but that at the spoiled places among the c first P holds of what opens

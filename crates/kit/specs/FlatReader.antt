@@ -1,4 +1,4 @@
--- The reader's answers as numbers.
+-- The answers of the reader, of spacing and of the report as numbers.
 use mathlib.Core.Path.{_≡_}
 use mathlib.Core.List.{List}
 use Prim.Native.Nat.{ℕ}
@@ -6,10 +6,10 @@ use lib.ListN.{length}
 use Rattle.reader.specs.declared.Outcome.{Outcome}
 use Rattle.reader.specs.declared.Outcome.the-variants as o
 use Rattle.reader.specs.declared.Got.{Got}
-use Rattle.reader.specs.declared.Spaced.{Spaced}
-use Rattle.reader.specs.declared.Spaced.the-variants as s
-use Rattle.reader.specs.declared.Tally.{Tally}
 use Rattle.reader.specs.Reading.{numberOf, readGives, readLeaves, partOf, lookPart, lookPlace}
+use Rattle.survey.specs.declared.Spaced.{Spaced}
+use Rattle.survey.specs.declared.Spaced.the-variants as s
+use Rattle.survey.specs.declared.Tally.{Tally}
 use Rattle.kit.specs.declared.NbGot.{NbGot}
 use Rattle.kit.specs.declared.NbPart.{NbPart}
 use Rattle.kit.specs.declared.NbSpaced.{NbSpaced}

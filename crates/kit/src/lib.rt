@@ -10,12 +10,14 @@ ghost use Rattle.writer.specs.Writing.{numberOf, start, write, close};
 ghost use Rattle.kit.specs.FlatWriter.{flatWrote, replyCode, stateOf, flagNumber, given, FlatDid, FlatStarted};
 ghost use lib.ListN.{length};
 ghost use Rattle.reader.specs.Reading;
-ghost use Rattle.reader.specs.Reading.{lookNumber, spacing, reportOf};
+ghost use Rattle.reader.specs.Reading.{lookNumber};
+ghost use Rattle.survey.specs.Report.{reportOf};
+ghost use Rattle.survey.specs.Spacing.{spacing};
 ghost use Rattle.kit.specs.FlatReader.{outcomeCode, dataOf, flatGot, FlatRead, recordPlace, lookedAt, flatSpaced, flatTally};
 use reader::Got;
 use reader::Outcome;
-use reader::Spaced;
-use reader::Tally;
+use survey::Spaced;
+use survey::Tally;
 use writer::Reply;
 use writer::WriterState;
 use writer::Wrote;
@@ -467,12 +469,12 @@ pub extern "C" fn nb_space(
 ) -> NbSpaced
     ensures { λ r. ⌜ r ≡ flatSpaced (spacing (now (key .entry)) id recording (now (image .entry)) p n) ⌝ }
 {
-    flat_spaced(reader::space(key, id, recording, image, p, n))
+    flat_spaced(survey::space(key, id, recording, image, p, n))
 }
 
 #[no_mangle]
 pub extern "C" fn nb_report(key: &[u8], id: u32, recording: u64, image: &[u8]) -> NbTally
     ensures { λ r. ⌜ r ≡ flatTally (reportOf (now (key .entry)) id recording (now (image .entry))) ⌝ }
 {
-    flat_tally(reader::report(key, id, recording, image))
+    flat_tally(survey::report(key, id, recording, image))
 }

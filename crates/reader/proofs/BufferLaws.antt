@@ -82,28 +82,25 @@ may-open : (key part out : List ℕ) → length key ≡ 24 → 512 ≤ length pa
 unfolding openable
 may-open key part out a b c = rw (eq-eqb (length key) 24 a, le-leb 512 (length part) b, eq-eqb (length out) 488 c)
 
-module _ (key : List ℕ) (id recording : ℕ) (image : List ℕ) (q : ℕ) (buffer : List ℕ) (at n : ℕ) {part out out′ : List ℕ} {r : Seen} (hk : length key ≡ 24)
-    (hi : q * 512 + 512 ≤ length image) (hb : at + 488 ≤ length buffer) (hn : n ≡ 488)
-    (hp : part ≡ take (length image - 512 * q) (drop (512 * q) image)) (ho : out ≡ take n (drop at buffer))
+module _ (key : List ℕ) (id recording : ℕ) (image : List ℕ) (q : ℕ) {part out out′ : List ℕ} {r : Seen} (hk : length key ≡ 24)
+    (hi : q * 512 + 512 ≤ length image) (hp : part ≡ take (length image - 512 * q) (drop (512 * q) image)) (ho : length out ≡ 488)
     (c : OpenedAt key id recording q part out r out′) where
   part-length : 512 ≤ length part
   part-length = rw hp (simp (length-take, length-drop) (omega arith))
-
-  out-length : length out ≡ 488
-  out-length = rw ho (length-take-le n (drop at buffer) (omega (arith, length-drop at buffer)) ∙ hn)
 
   shown : openBlock key id recording q (take 512 part) ≡ view key id recording image q
   unfolding view blockAt
   shown = ap (λ (x : List ℕ). openBlock key id recording q x) (ap (take 512) hp ∙ take-take 512 (length image - 512 * q) (drop (512 * q) image) (omega arith))
 
   pub opened-says : r ≡ seenOf (view key id recording image q)
-  opened-says = c .says ∙ rw (may-open key part out hk part-length out-length) (ap seenOf shown)
+  opened-says = c .says ∙ rw (may-open key part out hk part-length ho) (ap seenOf shown)
 
-  out-is : out′ ≡ payload (bytesOf (view key id recording image q))
-  out-is = c .bytes ∙ rw (may-open key part out hk part-length out-length) (ap (λ (o : Content). payload (bytesOf o)) shown)
+  opened-bytes : out′ ≡ payload (bytesOf (view key id recording image q))
+  opened-bytes = c .bytes ∙ rw (may-open key part out hk part-length ho) (ap (λ (o : Content). payload (bytesOf o)) shown)
 
-  pub opened-leaves : take at buffer ++ (out′ ++ drop n (drop at buffer)) ≡ splice buffer at (payload (bytesOf (view key id recording image q)))
-  opened-leaves =
+  -- into n bytes of a buffer, from `at` on
+  pub opened-leaves : (buffer : List ℕ) (at n : ℕ) → n ≡ 488 → take at buffer ++ (out′ ++ drop n (drop at buffer)) ≡ splice buffer at (payload (bytesOf (view key id recording image q)))
+  opened-leaves buffer at n hn =
       let y = payload (bytesOf (view key id recording image q)) in
-      ap (λ (x : List ℕ). take at buffer ++ (x ++ drop n (drop at buffer))) {x = out′} {y = y} out-is
+      ap (λ (x : List ℕ). take at buffer ++ (x ++ drop n (drop at buffer))) {x = out′} {y = y} opened-bytes
       ∙ splice-mid buffer at n y (payload-length (bytesOf (view key id recording image q)) ∙ sym hn)

@@ -23,7 +23,7 @@ use Rattle.reader.specs.declared.Got.{Got}
 use Rattle.reader.specs.Walk.{Told, Record, Mark, End, Bad, Stray, Cut, Answer, answer, inside, gather, between, readAt}
 use Rattle.reader.specs.Reading.{outcomeOf, recordOf, gotOf, filled}
 use Rattle.reader.proofs.BufferLaws.{drop-splice, take-laid, cleared, splice-over}
-use Rattle.reader.proofs.ViewLaws.{SizedBy, Sized}
+use Rattle.reader.proofs.ViewLaws.{Sized, sized-most}
 
 -- ---- what the code sees is what a content is
 shut-seen : (c : Content) → seenOf c ≡ seen.Shut → c ≡ shut
@@ -85,10 +85,6 @@ module _ {a : Answer} {r : Got} (b₀ b : List ℕ) {b′ : List ℕ} (f : drop 
   record-kept d n k e x y h m g l = (got-is r x y ∙ ap gotOf (sym e), rw e (l ∙ cleared 31232 b₀ b d k h m g f))
 
 -- ---- what a block's bytes are
-sized-most : (l : Bool) (b : List ℕ) → SizedBy l b → length b ≤ 488
-sized-most true b h = h
-sized-most false b h = omega arith
-
 payload-whole : (b : List ℕ) → length b ≡ 488 → payload b ≡ b
 payload-whole b h =
     let e : 488 - length b ≡ 0 = omega arith in

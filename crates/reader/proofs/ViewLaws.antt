@@ -23,6 +23,10 @@ abbrev pub SizedBy : Bool → List ℕ → Type 0
 SizedBy true b = length b ≤ 488
 SizedBy false b = length b ≡ 488
 
+pub sized-most : (l : Bool) (b : List ℕ) → SizedBy l b → length b ≤ 488
+sized-most true b h = h
+sized-most false b h = omega arith
+
 abbrev pub Sized : Content → Type 0
 Sized shut = Unit {0}
 Sized (more l b) = SizedBy l b

@@ -1,5 +1,3 @@
 -- What reading a cartridge is.
 pub mod Walk
 pub mod Reading
-pub mod Counting
-pub mod Marks

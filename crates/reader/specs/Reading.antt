@@ -1,20 +1,17 @@
 -- What the reader's calls promise (01, "Reading" and "Numbers a caller can get back").
 use mathlib.Core.Path.{_≡_}
-use mathlib.Core.Bool.{Bool, true, false}
-use mathlib.Core.List.{List, [], _∷_, _++_}
-use Prim.Native.Nat.{ℕ, zero, suc, _+_, _-_, _*_}
+use mathlib.Core.Bool.{Bool}
+use mathlib.Core.List.{List, [], _++_}
+use Prim.Native.Nat.{ℕ, _-_, _*_}
 use lib.Dec.{eqb, leb, ltb}
 use lib.ListN.{length, take, replicate}
 use Rattle.laws.specs.Choose.{pick, firstOf}
 use Rattle.laws.specs.Lists.{splice}
-use Rattle.block.specs.Image.{View, capacityOf, imageOk, blockAt, view}
+use Rattle.block.specs.Image.{capacityOf, imageOk, blockAt, view}
 use Rattle.reader.specs.declared.Outcome.{Outcome}
 use Rattle.reader.specs.declared.Outcome.the-variants as o
 use Rattle.reader.specs.declared.Got.{Got}
-use Rattle.reader.specs.declared.Spaced.{Spaced}
-use Rattle.reader.specs.declared.Spaced.the-variants as s
-use Rattle.reader.specs.declared.Tally.{Tally}
-use Rattle.reader.specs.Walk.{Told, Record, Mark, End, Bad, Stray, Cut, Answer, readAt, Visit, walk}
+use Rattle.reader.specs.Walk.{Told, Record, Mark, End, Bad, Stray, Cut, Answer, readAt}
 
 -- ---- an outcome as the code says it, and the number of each of its cases
 abbrev pub outcomeOf : Told → Outcome
@@ -89,53 +86,3 @@ lookPart image p = pick (eqb (lookNumber image p) 0) (blockAt image p) []
 -- where that part starts in the image
 unfoldable pub lookPlace : List ℕ → ℕ → ℕ
 lookPlace image p = pick (eqb (lookNumber image p) 0) (512 * p) 0
-
--- ---- spacing over n marks, with m passed: f reads at most
-abbrev pub spaceOn : Told → Spaced → Spaced → Spaced → Spaced
-spaceOn (Record b) mark end on = on
-spaceOn Mark mark end on = mark
-spaceOn End mark end on = end
-spaceOn Bad mark end on = on
-spaceOn Stray mark end on = on
-spaceOn (Cut q) mark end on = on
-
-unfoldable pub spaceFrom : ℕ → View → ℕ → ℕ → ℕ → ℕ → Spaced
-spaceFrom zero v c p n m = pick (eqb n 0) (s.At p) (s.Short m p)
-spaceFrom (suc f) v c p n m =
-    pick (eqb n 0) (s.At p)
-    (pick (ltb p c)
-    (spaceOn (readAt v c p .told) (spaceFrom f v c (readAt v c p .next) (n - 1) (m + 1)) (s.Short m p) (spaceFrom f v c (readAt v c p .next) n m))
-    (s.Short m p))
-
-unfoldable pub spaceNumber : List ℕ → List ℕ → ℕ → ℕ
-spaceNumber key image p = firstOf (imageOk image) 1 (firstOf (keyOk key) 2 (firstOf (ltb p (capacityOf image)) 8 0))
-
-unfoldable pub spacing : List ℕ → ℕ → ℕ → List ℕ → ℕ → ℕ → Spaced
-spacing key id recording image p n =
-    pick (eqb (spaceNumber key image p) 0)
-    (spaceFrom (capacityOf image - p) (view key id recording image) (capacityOf image) p n 0)
-    (s.Refused (spaceNumber key image p) p)
-
--- ---- the report: the answers of the walk, counted by outcome
-abbrev pub none : ℕ → Tally
-none n = record { number = n; records = 0; marks = 0; ends = 0; bads = 0; strays = 0; cuts = 0 }
-
-abbrev pub counted : Told → Tally → Tally
-counted (Record b) t = record { number = t .number; records = t .records + 1; marks = t .marks; ends = t .ends; bads = t .bads; strays = t .strays; cuts = t .cuts }
-counted Mark t = record { number = t .number; records = t .records; marks = t .marks + 1; ends = t .ends; bads = t .bads; strays = t .strays; cuts = t .cuts }
-counted End t = record { number = t .number; records = t .records; marks = t .marks; ends = t .ends + 1; bads = t .bads; strays = t .strays; cuts = t .cuts }
-counted Bad t = record { number = t .number; records = t .records; marks = t .marks; ends = t .ends; bads = t .bads + 1; strays = t .strays; cuts = t .cuts }
-counted Stray t = record { number = t .number; records = t .records; marks = t .marks; ends = t .ends; bads = t .bads; strays = t .strays + 1; cuts = t .cuts }
-counted (Cut q) t = record { number = t .number; records = t .records; marks = t .marks; ends = t .ends; bads = t .bads; strays = t .strays; cuts = t .cuts + 1 }
-
--- the answers of a list of visits, counted into t from the front
-unfoldable pub tallied : List Visit → Tally → Tally
-tallied [] t = t
-tallied (x ∷ xs) t = tallied xs (counted (x .says) t)
-
-unfoldable pub reportNumber : List ℕ → List ℕ → ℕ
-reportNumber key image = firstOf (imageOk image) 1 (firstOf (keyOk key) 2 0)
-
-unfoldable pub reportOf : List ℕ → ℕ → ℕ → List ℕ → Tally
-reportOf key id recording image =
-    pick (eqb (reportNumber key image) 0) (tallied (walk (view key id recording image) (capacityOf image)) (none 0)) (none (reportNumber key image))

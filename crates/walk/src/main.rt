@@ -169,7 +169,7 @@ fn walk(key: &[u8], id: u32, recording: u64, image: &[u8]) {
 }
 
 fn report(key: &[u8], id: u32, recording: u64, image: &[u8]) {
-    let tally = reader::report(key, id, recording, image);
+    let tally = survey::report(key, id, recording, image);
     show_with(b"records ", tally.records);
     show_with(b" marks ", tally.marks);
     show_with(b" ends ", tally.ends);
@@ -180,7 +180,7 @@ fn report(key: &[u8], id: u32, recording: u64, image: &[u8]) {
 }
 
 fn serve(key: &[u8], id: u32, recording: u64, image: &[u8]) {
-    let number = reader::report(key, id, recording, image).number;
+    let number = survey::report(key, id, recording, image).number;
     if number != 0 {
         explain(number);
         return;

@@ -1,4 +1,4 @@
--- `kit::nb_report` meets its contract: the reader's report, flat.
+-- `kit::nb_report` meets its contract: the report, flat.
 -- Assumes nothing.
 use borrow.Author.Needs.{needs}
 use mathlib.Core.Path.{ap, _∙_}

@@ -1,4 +1,4 @@
--- `kit::nb_space` meets its contract: the reader's spacing, flat.
+-- `kit::nb_space` meets its contract: spacing, flat.
 -- Assumes nothing.
 use borrow.Author.Needs.{needs}
 use mathlib.Core.Path.{ap, _∙_}

@@ -1,9 +1,11 @@
 -- `reader::open_at` meets its contract: the block's part of the image is lent on, and the 488 bytes come back.
 -- Assumes nothing.
 use borrow.Author.Needs.{needs}
-use mathlib.Core.Path.{_≡_, refl}
+use mathlib.Core.Path.{_≡_, refl, _∙_}
 use Prim.Native.Nat.{_+_, _-_}
 use native.Mathlib.Omega.{arith}
+use lib.ListN.{length, take, drop, length-drop}
+use lib.Seq.{length-take-le}
 use Rattle.reader.proofs.BufferLaws.{opened-says, opened-leaves}
 use Rattle.reader.proofs.open_at.Statement.{statement}
 use Rattle.reader.proofs.open_at.Tie as tie
@@ -46,9 +48,10 @@ returns c =
     let s = c .before .before .before .before .before .before .before .before in
     let a = s .args in
     let n = a .at + 488 - a .at in
-    let h : n ≡ 488 = omega arith in (
-      opened-says (a .key .now) (a .id) (a .recording) (a .image .now) (a .q) (a .buffer .now) (a .at) n (s .pre .0) (s .pre .1) (s .pre .3) h refl refl (c .before .before .open-block .ensures),
-      opened-leaves (a .key .now) (a .id) (a .recording) (a .image .now) (a .q) (a .buffer .now) (a .at) n (s .pre .0) (s .pre .1) (s .pre .3) h refl refl (c .before .before .open-block .ensures),
+    let h : n ≡ 488 = omega arith in
+    let k : length (take n (drop (a .at) (a .buffer .now))) ≡ 488 = length-take-le n (drop (a .at) (a .buffer .now)) (omega (arith, length-drop (a .at) (a .buffer .now))) ∙ h in (
+      opened-says (a .key .now) (a .id) (a .recording) (a .image .now) (a .q) (s .pre .0) (s .pre .1) refl k (c .before .before .open-block .ensures),
+      opened-leaves (a .key .now) (a .id) (a .recording) (a .image .now) (a .q) (s .pre .0) (s .pre .1) refl k (c .before .before .open-block .ensures) (a .buffer .now) (a .at) n h,
     )
 
 pub open-at-spec : {M : Type 1} → statement M

@@ -1,0 +1,7 @@
+-- What is true of spacing and the report.
+pub mod SizeLaws
+pub mod SpaceLaws
+pub mod CountLaws
+pub mod SpaceWalk
+pub mod ReportLaws
+pub mod Unique
