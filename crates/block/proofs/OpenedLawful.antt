@@ -12,7 +12,7 @@ use lib.Dec.{eqb, leb, lit<}
 use lib.ListN.{length, getD, take, drop, replicate, length-drop, length-replicate}
 use lib.Seq.{length-take-le}
 use Rattle.laws.specs.Choose.{pick}
-use Rattle.laws.proofs.ByteLaws.{Bytes, bytes-cons, bytes-zeros, bytes-take, bytes-drop, bytes-append}
+use Rattle.laws.proofs.ByteLaws.{Bytes, bytes-zeros, bytes-take, bytes-drop, bytes-append}
 use Rattle.laws.proofs.ChooseLaws.{both-left, both-right}
 use Rattle.permutation.proofs.StateLaws.{Whole}
 use Rattle.sponge.specs.Blink.{put, dec}

@@ -2,8 +2,7 @@
 ghost use mathlib.Core.Path.{_≡_};
 ghost use mathlib.Core.List.{_++_};
 ghost use Prim.Native.Nat.{_≤_, _<_};
-ghost use lib.ListN.{length, getD, take, drop};
-ghost use lib.Dec.{eqb};
+ghost use lib.ListN.{length, drop};
 ghost use Rattle.laws.specs.Lists.{splice};
 ghost use Rattle.aead.specs.Sealing.{sealed};
 ghost use Rattle.block.specs.Content.{flag, bytesOf};

@@ -1,6 +1,5 @@
 // What every layer does with lent buffers: zero one, copy into one, compare two.
 ghost use mathlib.Core.Path.{_≡_};
-ghost use Prim.Native.Nat.{min};
 ghost use lib.ListN.{length, take, replicate};
 ghost use Rattle.laws.specs.Lists.{splice, same};
 

@@ -1,20 +1,19 @@
 -- Demand 3 read at the code: an answer of the walk is what a call of `read` at its place gives, and a record that is handed out stands in
 -- the front of the lent buffer, zeros behind it.
 -- Assumes nothing.
-use mathlib.Core.Path.{_≡_, refl, sym, ap, _∙_}
+use mathlib.Core.Path.{_≡_, refl, ap, _∙_}
 use mathlib.Core.Bool.{Bool, true, false}
 use mathlib.Core.List.{List, [], _∷_, _++_}
-use Prim.Native.Nat.{ℕ, zero, suc, _-_, _≤_, _<_}
-use native.Mathlib.Omega.{arith}
+use Prim.Native.Nat.{ℕ, zero, suc, _-_, _<_}
 use borrow.Author.Tests.{eq-eqb, ltb-true}
-use lib.Dec.{eqb, ltb}
+use lib.Dec.{ltb}
 use lib.ListN.{length, replicate}
 use Rattle.laws.specs.Choose.{pick}
 use Rattle.laws.specs.Lists.{splice}
 use Rattle.block.specs.Image.{View, capacityOf, view}
 use Rattle.reader.specs.declared.Outcome.the-variants as o
 use Rattle.reader.specs.declared.Got.{Got}
-use Rattle.reader.specs.Walk.{Told, Record, isEnd, readAt, Visit, visit, walkFrom, walk}
+use Rattle.reader.specs.Walk.{Record, isEnd, readAt, Visit, visit, walkFrom, walk}
 use Rattle.reader.specs.Reading.{readNumber, readAnswer, filled, Read}
 
 -- each answer of a walk is that of a read at its place, which lies in the image

@@ -3,16 +3,15 @@
 -- Assumes nothing.
 use mathlib.Core.Path.{_≡_, refl, sym, ap, _∙_, subst}
 use mathlib.Core.Logic.{_≢_}
-use mathlib.Core.Bool.{Bool, true, false, not, true≢false, false≢true}
-use mathlib.Core.List.{List, [], _∷_, _++_}
-use Prim.Native.Nat.{ℕ, zero, suc, _+_, _*_, _/_, _≤_, _<_}
+use mathlib.Core.Bool.{Bool, true, false, false≢true}
+use mathlib.Core.List.{List, [], _∷_}
+use Prim.Native.Nat.{ℕ, zero, suc, _+_, _<_}
 use native.Mathlib.Omega.{arith}
 use borrow.Author.Tests.{not-true, not-false}
 use lib.ListN.{length}
-use Rattle.laws.specs.Choose.{pick}
 use Rattle.laws.specs.Lists.{same}
 use Rattle.laws.proofs.SameLaws.{same-true, same-refl}
-use Rattle.block.specs.Content.{Content, Shut}
+use Rattle.block.specs.Content.{Shut}
 use Rattle.block.specs.Format.{openBlock}
 use Rattle.block.specs.Image.{blockAt, capacityOf, view}
 use Rattle.writer.specs.declared.WriterState.{WriterState}

@@ -1,19 +1,19 @@
 -- What the writer's blocks look like through the key, and what is left of them when some no longer open.
 -- Assumes nothing.
-use mathlib.Core.Path.{_≡_, refl, sym, ap, _∙_, subst}
+use mathlib.Core.Path.{_≡_, refl, ap, _∙_}
 use mathlib.Core.Bool.{Bool, true, false, true≢false, false≢true}
 use mathlib.Core.List.{List, [], _∷_, _++_, append-nil, append-assoc}
-use Prim.Native.Nat.{ℕ, zero, suc, _+_, _-_, _*_, _/_, _≤_, _<_, min}
-use native.Mathlib.Nat.{add-suc, suc-add, add-zero, zero-add, add-assoc}
+use Prim.Native.Nat.{ℕ, zero, suc, _+_, _-_, _*_, _≤_, _<_, min}
+use native.Mathlib.Nat.{add-suc, suc-add, add-zero, add-assoc}
 use native.Mathlib.Omega.{arith}
 use native.Mathlib.Numerals.{add-one}
-use lib.ListN.{length, take, drop, length-append, length-drop, take-append-drop}
+use lib.ListN.{length, drop, length-append, length-drop, take-append-drop}
 use Rattle.laws.specs.Choose.{pick}
-use Rattle.block.specs.Content.{Head, first, mark, eod, Content, shut, more, head, Shut}
+use Rattle.block.specs.Content.{first, mark, eod, Content, shut, more, head, Shut}
 use Rattle.block.specs.Image.{View}
 use Rattle.writer.specs.Items.{Item, rec, fmark, blocksFor, size, pieces, isNil, following, recorded, blocks}
-use Rattle.reader.specs.Walk.{Told, Record, Mark, End, Bad, Stray, Cut, isEnd, Answer, answer, inside, gather, begins, between, readAt}
-use Rattle.cartridge.specs.Handed.{Handed, hand, given, handed}
+use Rattle.reader.specs.Walk.{Told, Record, Mark, isEnd, Answer, answer, inside, gather, between, readAt}
+use Rattle.cartridge.specs.Handed.{Handed, hand, given}
 use Rattle.cartridge.specs.Recovered.{whole, intact}
 use Rattle.cartridge.proofs.Scan.{scan, Quiet, Gap, here, step, quiet-scan, scan-gap}
 

@@ -1,34 +1,32 @@
 -- What a chain of the writer's calls leaves in the image.
 -- Assumes nothing.
 use mathlib.Core.Path.{_≡_, refl, sym, ap, _∙_, subst}
-use mathlib.Core.Logic.{_⊎_, inl, inr}
-use mathlib.Core.Bool.{Bool, true, false, not}
+use mathlib.Core.Logic.{inl, inr}
+use mathlib.Core.Bool.{Bool, true, false}
 use mathlib.Core.List.{List, [], _∷_, _++_, append-nil, append-assoc}
-use Prim.Native.Nat.{ℕ, zero, suc, _+_, _-_, _*_, _/_, _≤_, _<_}
+use Prim.Native.Nat.{ℕ, zero, suc, _+_, _-_, _*_, _≤_, _<_}
 use native.Mathlib.Nat.{zero-add, add-zero, add-suc, suc-add}
 use native.Mathlib.Omega.{arith}
-use native.Mathlib.Numerals.{add-one}
 use borrow.Author.Tests.{leb-true}
 use lib.Dec.{leb, ltb}
-use lib.ListN.{length, take, drop, replicate, length-replicate, length-append, length-take, length-drop}
+use lib.ListN.{length, take, drop, replicate, length-replicate, length-take, length-drop}
 use lib.Seq.{length-take-le}
 use Rattle.laws.specs.Choose.{pick, firstOf}
 use Rattle.laws.proofs.ChooseLaws.{both-left, both-right}
-use Rattle.block.specs.Content.{Head, first, mark, eod, Content, shut, more, head, Shut, AllBytes, Used, Lawful}
+use Rattle.block.specs.Content.{eod, Content, head, Shut, AllBytes}
 use Rattle.block.specs.Format.{openBlock}
-use Rattle.block.specs.Image.{blockAt, capacityOf, imageOk, View, view, lay}
+use Rattle.block.specs.Image.{capacityOf, imageOk, View, view, lay}
 use Rattle.block.proofs.ImageLaws as image
 use Rattle.block.proofs.ImageLaws.{AllLawful, length-lay, lay-else, lay-stands, block-zeros}
 use Rattle.block.proofs.RoundTrip.{zeros-shut}
 use Rattle.writer.specs.declared.WriterState.{WriterState}
-use Rattle.writer.specs.declared.Reply.{Reply}
-use Rattle.writer.specs.declared.Reply.the-variants.{Plain, Warned, Refused}
-use Rattle.writer.specs.Items.{Item, rec, fmark, blocksFor, size, pieces, isNil, following, recorded, blocks}
-use Rattle.writer.specs.Writing.{Done, lengthOk, moved, warns, judged, taken, ended, started, none, zoneOk, startNumber, itemNumber, closeNumber, start, write, close}
+use Rattle.writer.specs.declared.Reply.the-variants.{Plain, Warned}
+use Rattle.writer.specs.Items.{Item, rec, fmark, blocksFor, size, pieces, following, recorded, blocks}
+use Rattle.writer.specs.Writing.{lengthOk, moved, warns, judged, taken, ended, started, none, zoneOk, startNumber, itemNumber, closeNumber, start, write, close}
 use Rattle.writer.proofs.Pieces.{length-blocks}
 use Rattle.writer.proofs.Ready.{item-fits, close-ready, whole, zoned}
 use Rattle.cartridge.specs.Chain.{Call, item, closing, call, took, chain, accepted, ItemBytes, CallBytes, AllCallBytes}
-use Rattle.cartridge.proofs.Laid.{Sound, AllSound, layout, Stands, Seen, Blank, seen-append, sizes, length-layout}
+use Rattle.cartridge.proofs.Laid.{Sound, AllSound, layout, Stands, Blank, sizes, length-layout}
 
 -- ---- an item's blocks are lawful
 

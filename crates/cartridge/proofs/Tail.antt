@@ -1,26 +1,25 @@
 -- The tail of the reel: with no damage the walk is the accepted items, each at its place, and then End at the closing mark; and a record
 -- that was refused leaves the cartridge closable.
 -- Assumes nothing.
-use mathlib.Core.Path.{_≡_, refl, sym, ap, _∙_}
+use mathlib.Core.Path.{_≡_, refl, ap}
 use mathlib.Core.Bool.{true, false}
-use mathlib.Core.List.{List, [], _∷_, _++_, append-assoc}
-use Prim.Native.Nat.{ℕ, zero, suc, _+_, _/_, _≤_, _<_}
-use native.Mathlib.Nat.{add-assoc}
+use mathlib.Core.List.{List, [], _∷_, append-assoc}
+use Prim.Native.Nat.{ℕ, zero, suc, _+_, _/_, _≤_}
 use native.Mathlib.Omega.{arith}
 use borrow.Author.Tests.{lt-ltb}
 use lib.ListN.{length}
 use Rattle.block.specs.Image.{View, capacityOf, view}
 use Rattle.writer.specs.declared.WriterState.{WriterState}
-use Rattle.writer.specs.declared.Reply.the-variants.{Plain, Refused}
+use Rattle.writer.specs.declared.Reply.the-variants.{Plain}
 use Rattle.writer.specs.Items.{Item, rec, fmark, size, blocks}
-use Rattle.writer.specs.Writing.{numberOf, stay, start, write, close}
+use Rattle.writer.specs.Writing.{numberOf, start, write, close}
 use Rattle.writer.proofs.Pieces.{length-blocks}
 use Rattle.writer.proofs.Ready.{Ready}
 use Rattle.writer.proofs.Rules.{refused-leaves, room-for-closing}
 use Rattle.reader.specs.Walk.{End, isEnd, readAt, Visit, visit, walkFrom, walk}
 use Rattle.cartridge.specs.Chain.{Call, chain, accepted, AllCallBytes}
 use Rattle.cartridge.proofs.Laid.{AllSound, Stands, outcome, seen-append, sizes, closed, size-pos, read-whole}
-use Rattle.cartridge.proofs.Made.{Made, made-chain, made-start}
+use Rattle.cartridge.proofs.Made.{made-chain, made-start}
 
 -- what the walk answers: each item, then End
 abbrev pub visits : ℕ → List Item → List Visit

@@ -8,7 +8,7 @@ use native.Mathlib.Omega.{arith}
 use lib.ListN.{length, take, drop, length-append, length-take, length-drop, take-append-drop, drop-of-length-le}
 use lib.ListN.{set, getD, List·getD-append}
 use native.Mathlib.Numerals.{add-one}
-use lib.Seq.{getD-append-add, getD-drop, set-at, drop-cons, take-at, drop-at, drop-drop, take-all, length-take-le}
+use lib.Seq.{getD-append-add, getD-drop, set-at, drop-cons, take-at, drop-at, drop-drop, take-all}
 use Rattle.laws.specs.Lists.{listed, front, splice}
 use Rattle.laws.proofs.ListLaws.{listed-length, listed-join}
 

@@ -1,5 +1,5 @@
 -- GF(2^8) with x^8 + x^4 + x^3 + x^2 + 1: its sum is xor, and its products come from doubling.
-use Prim.Native.Nat.{ℕ, zero, suc, _+_, _*_, _/_, _%_}
+use Prim.Native.Nat.{ℕ, zero, suc, _*_, _/_, _%_}
 use Rattle.laws.specs.Xor.{xor}
 
 -- x where the bit b is set

@@ -1,9 +1,7 @@
 -- `vectors::show_bytes` is safe and ends.
 -- Assumes nothing.
-use Prim.Native.Nat.{_+_, _-_, _≤_, _<_}
-use mathlib.Core.Path.{_≡_, refl}
-use native.Mathlib.Omega.{arith}
-use lib.ListN.{length, length-set}
+use Prim.Native.Nat.{_-_, _≤_}
+use lib.ListN.{length}
 use borrow.Author.Needs.{needs}
 use Rattle.vectors.proofs.show_bytes.Statement.{statement}
 use Rattle.vectors.proofs.show_bytes.Tie as tie

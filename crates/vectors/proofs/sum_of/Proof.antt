@@ -1,9 +1,7 @@
 -- `vectors::sum_of` is safe and ends.
 -- Assumes nothing.
-use Prim.Native.Nat.{_+_, _-_, _≤_, _<_}
-use mathlib.Core.Path.{_≡_, refl}
-use native.Mathlib.Omega.{arith}
-use lib.ListN.{length, length-set}
+use Prim.Native.Nat.{_-_, _≤_, _<_}
+use lib.ListN.{length}
 use borrow.Author.Needs.{needs}
 use Rattle.vectors.proofs.sum_of.Statement.{statement}
 use Rattle.vectors.proofs.sum_of.Tie as tie
