@@ -17,9 +17,9 @@ use Rattle.kit.specs.FlatReader.{flatGot, FlatRead, lookedAt}
 use Rattle.kit.specs.FlatWriter.{flatWrote, stateOf, given, flagNumber, FlatDid, FlatStarted}
 
 module _ {id recording capacity zone position closed : ℕ} {key image : List ℕ} {r : NbWrote} where
-  pub other-flag : {d : Done} {n : ℕ} → 1 < closed → n ≡ flagNumber key image → r ≡ given id recording capacity zone position closed n
+  pub other-flag : {d : Done} → 1 < closed → r ≡ given id recording capacity zone position closed (flagNumber key image)
       → FlatDid id recording capacity zone position closed key image d r image
-  other-flag h e g = record { says = rw (lt-leb closed 1 h) (g ∙ ap (given id recording capacity zone position closed) e); leaves = rw (lt-leb closed 1 h) }
+  other-flag h e = record { says = rw (lt-leb closed 1 h) e; leaves = rw (lt-leb closed 1 h) }
 
   pub called : (does : WriterState → Done) {s : WriterState} {w : Wrote} {image′ : List ℕ} → closed ≤ 1 → s ≡ stateOf id recording capacity zone position closed
       → Did (does s) w image′ → r ≡ flatWrote w

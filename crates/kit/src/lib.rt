@@ -211,9 +211,10 @@ fn refused_flag(
     zone: usize,
     position: usize,
     closed: u8,
-    number: u8,
+    key: &[u8],
+    image: &[u8],
 ) -> NbWrote
-    ensures { λ r. ⌜ r ≡ given id recording capacity zone position closed number ⌝ }
+    ensures { λ r. ⌜ r ≡ given id recording capacity zone position closed (flagNumber (now (key .entry)) (now (image .entry))) ⌝ }
 {
     NbWrote {
         id,
@@ -223,7 +224,7 @@ fn refused_flag(
         position,
         closed,
         reply: 2,
-        number,
+        number: flag_number(key, image),
     }
 }
 
@@ -249,8 +250,7 @@ pub extern "C" fn nb_record(
     ensures { λ r. ⌜ FlatDid id recording capacity zone position closed (now (key .entry)) (now (image .entry)) (write (stateOf id recording capacity zone position closed) (now (key .entry)) (now (image .entry)) (rec (now (bytes .entry)))) r (now (image .exit)) ⌝ }
 {
     if 1 < closed {
-        let number = flag_number(key, image);
-        return refused_flag(id, recording, capacity, zone, position, closed, number);
+        return refused_flag(id, recording, capacity, zone, position, closed, key, image);
     }
     let state = state_of(id, recording, capacity, zone, position, closed);
     flat(state.record(key, bytes, image))
@@ -270,8 +270,7 @@ pub extern "C" fn nb_mark(
     ensures { λ r. ⌜ FlatDid id recording capacity zone position closed (now (key .entry)) (now (image .entry)) (write (stateOf id recording capacity zone position closed) (now (key .entry)) (now (image .entry)) fmark) r (now (image .exit)) ⌝ }
 {
     if 1 < closed {
-        let number = flag_number(key, image);
-        return refused_flag(id, recording, capacity, zone, position, closed, number);
+        return refused_flag(id, recording, capacity, zone, position, closed, key, image);
     }
     let state = state_of(id, recording, capacity, zone, position, closed);
     flat(state.mark(key, image))
@@ -291,8 +290,7 @@ pub extern "C" fn nb_close(
     ensures { λ r. ⌜ FlatDid id recording capacity zone position closed (now (key .entry)) (now (image .entry)) (close (stateOf id recording capacity zone position closed) (now (key .entry)) (now (image .entry))) r (now (image .exit)) ⌝ }
 {
     if 1 < closed {
-        let number = flag_number(key, image);
-        return refused_flag(id, recording, capacity, zone, position, closed, number);
+        return refused_flag(id, recording, capacity, zone, position, closed, key, image);
     }
     let state = state_of(id, recording, capacity, zone, position, closed);
     flat(state.close(key, image))

@@ -7,9 +7,6 @@ use Rattle.kit.proofs.Crossing.{other-flag, called}
 use Rattle.kit.proofs.nb_record.Statement.{statement}
 use Rattle.kit.proofs.nb_record.Tie as tie
 
-flag-number-requires : tie.Need-flag-number-requires
-flag-number-requires c κs = search needs
-
 refused-flag-requires : tie.Need-refused-flag-requires
 refused-flag-requires c κs = search needs
 
@@ -17,7 +14,7 @@ same-length : tie.Need-same-length
 same-length c = search needs
 
 returns : tie.Need-returns
-returns c = other-flag (c .before .before .before .if1 .taken) (c .before .flag-number .ensures) (c .refused-flag .ensures)
+returns c = other-flag (c .before .before .if1 .taken) (c .refused-flag .ensures)
 
 state-of-requires : tie.Need-state-of-requires
 state-of-requires c κs = search needs
@@ -45,7 +42,6 @@ pub nb-record-spec : {M : Type 1} → statement M
 nb-record-spec =
     tie.close
     (tie.spec
-    flag-number-requires
     refused-flag-requires
     same-length
     returns
