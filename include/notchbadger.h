@@ -14,12 +14,12 @@
  * cannot see it, and sealing two messages so loses the secrecy of both. What
  * this asks of recording numbers stands at the writer.
  *
- * A call returns a number, alone or in a struct: 0 when it was carried
- * out, else the first cause in the order given at the call. A refused call
- * (any cause but 7) leaves all lent memory as it was. 7 leaves the receiving
- * buffer all zero. Those of the first eight calls:
- *   2  a key, nonce or receiving buffer of wrong length, a state that is not
- *      64 bytes, sealed bytes under 16
+ * A call returns a number, alone or in a struct, unless it says "no number": 0
+ * when it was carried out, else the first cause in the order given at the
+ * call. A refused call (any cause but 7) leaves all lent memory as it was. 7
+ * leaves the receiving buffer all zero. The causes up to nb_open:
+ *   2  a key, nonce or receiving buffer of wrong length, a state or round key
+ *      that is not 64 bytes, sealed bytes under 16
  *   7  the tag does not fit
  *   9  associated data or message above its limit; a block operation on more
  *      than 65,536 bytes
@@ -64,6 +64,22 @@ uint8_t nb_permute(uint8_t *state, size_t state_len);
 /* Undoes nb_permute, in place. 2. Writes the state alone, and only when it
  * returns 0. */
 uint8_t nb_permute_back(uint8_t *state, size_t state_len);
+
+/* Runs one round of the permutation over the state, in place: substitutes,
+ * shifts and mixes, and takes in the round key, of NB_STATE_BYTES bytes, by
+ * xor. 2 (state or key). Writes the state alone, and only when it returns
+ * 0. */
+uint8_t nb_round(uint8_t *state, size_t state_len,
+                 const uint8_t *key, size_t key_len);
+
+/* Undoes nb_round with the same key, in place. 2 (state or key). Writes the
+ * state alone, and only when it returns 0. */
+uint8_t nb_round_back(uint8_t *state, size_t state_len,
+                      const uint8_t *key, size_t key_len);
+
+/* What Table 1.1 of the STRIBOBr2 paper has for the byte x, worked out from
+ * the three miniboxes. Takes every byte; no number. Writes nothing. */
+uint8_t nb_minibox(uint8_t x);
 
 /* Takes bytes into the state and closes the operation. No bytes are an
  * operation too. 2, 9. Writes the state alone, and only when it returns 0. */
@@ -271,8 +287,8 @@ nb_got nb_read(const uint8_t *key, size_t key_len, uint32_t id, uint64_t recordi
 nb_part nb_record_part(const uint8_t *buffer, size_t buffer_len, size_t length);
 
 /* Block p as it stands in the image, unopened: its NB_BLOCK_BYTES bytes; where
- * it is refused, the empty part at the front. nb_look_number tells why. Writes
- * nothing. */
+ * it is refused, the empty part at the front. No number: nb_look_number tells
+ * why. Writes nothing. */
 nb_part nb_look(const uint8_t *image, size_t image_len, size_t p);
 
 /* The number of nb_look with the same arguments. 1, 8. Writes nothing. */

@@ -1,6 +1,6 @@
 /* compare [SEED [CASES]]: holds the peer and the kit's static library against
- * each other on random cases of the eight calls: the number, every lent
- * buffer, and the guard bytes on both sides of it. Exit 1 at the first
+ * each other on random cases of the calls up to open: what is returned, every
+ * lent buffer, and the guard bytes on both sides of it. Exit 1 at the first
  * difference, 2 on wrong arguments. */
 #include <inttypes.h>
 #include <stdbool.h>
@@ -14,24 +14,25 @@
 #include "seal.h"
 
 #define DEFAULT_SEED 20150828u
-#define DEFAULT_CASES 10000u
+#define DEFAULT_CASES 14000u
 #define STRIPS 5 /* the most buffers one call is lent */
 
 static const char *const calls[] = {
-    "permute", "permute_back", "put", "get", "enc", "dec", "seal", "open",
+    "permute", "permute_back", "round", "round_back", "minibox", "put", "get", "enc", "dec", "seal", "open",
 };
 
-enum call { PERMUTE, PERMUTE_BACK, PUT, GET, ENC, DEC, SEAL, OPEN, CALLS };
+enum call { PERMUTE, PERMUTE_BACK, ROUND, ROUND_BACK, MINIBOX, PUT, GET, ENC, DEC, SEAL, OPEN, CALLS };
 
 /* The strips of a call, in the order of its arguments. */
-enum { STATE = 0, IN = 1, OUT = 2 };                         /* block operations */
+enum { STATE = 0, ROUND_KEY = 1 };                             /* permutation */
+enum { IN = 1, OUT = 2 };                                      /* block operations */
 enum { KEY = 0, NONCE = 1, DATA = 2, TEXT = 3, RECEIVER = 4 }; /* seal, open */
 
 static struct strip strips[STRIPS];
 static const char *const names[STRIPS] = {"strip 0", "strip 1", "strip 2", "strip 3", "strip 4"};
 static struct {
     enum call call;
-    uint8_t domain;
+    uint8_t byte;  /* the domain, or what minibox takes */
     bool wild;     /* refusals crowded together, to see which cause comes first */
     size_t pinned; /* 1 to 3: every length is the limit, less 2 and plus this */
     const char *sort;
@@ -86,11 +87,25 @@ static uint8_t draw_domain(void)
     return below(2) ? named[below(sizeof named)] : (uint8_t)below(256);
 }
 
+/* minibox is lent nothing: it gets every byte in its turn. */
+static void draw_permutation(void)
+{
+    static uint8_t turn;
+
+    if (now.call == MINIBOX) {
+        now.byte = turn++;
+        return;
+    }
+    lend(STATE, draw_near(NB_STATE_BYTES));
+    if (now.call == ROUND || now.call == ROUND_BACK)
+        lend(ROUND_KEY, draw_near(NB_STATE_BYTES));
+}
+
 static void draw_operation(void)
 {
     size_t n = draw_length(NB_OPERATION_MAX);
 
-    now.domain = draw_domain();
+    now.byte = draw_domain();
     lend(STATE, draw_near(NB_STATE_BYTES));
     if (now.call == PUT || now.call == ENC || now.call == DEC)
         lend(IN, n);
@@ -173,7 +188,7 @@ static void choose_call(uint64_t number)
     now.call = (enum call)(now.pinned > 0 ? PUT + number % limited : below(CALLS));
     now.wild = now.pinned == 0 && below(20) == 0;
     now.sort = now.pinned > 0 ? "limit" : now.wild ? "wild" : "whole";
-    now.domain = 0;
+    now.byte = 0;
 }
 
 static void draw_case(uint64_t number)
@@ -181,8 +196,8 @@ static void draw_case(uint64_t number)
     for (int i = 0; i < STRIPS; i++)
         strips[i].length = 0;
     choose_call(number);
-    if (now.call == PERMUTE || now.call == PERMUTE_BACK)
-        lend(STATE, draw_near(NB_STATE_BYTES));
+    if (now.call < PUT)
+        draw_permutation();
     else if (now.call == SEAL || now.call == OPEN)
         draw_sealing();
     else
@@ -200,10 +215,13 @@ static uint8_t run_peer(void)
     switch (now.call) {
     case PERMUTE: return pi_permute(PEER(STATE));
     case PERMUTE_BACK: return pi_permute_back(PEER(STATE));
-    case PUT: return blnk_put(PEER(STATE), PEER(IN), now.domain);
-    case GET: return blnk_get(PEER(STATE), PEER(OUT), now.domain);
-    case ENC: return blnk_enc(PEER(STATE), PEER(IN), PEER(OUT), now.domain);
-    case DEC: return blnk_dec(PEER(STATE), PEER(IN), PEER(OUT), now.domain);
+    case ROUND: return pi_keyed(PEER(STATE), PEER(ROUND_KEY));
+    case ROUND_BACK: return pi_keyed_back(PEER(STATE), PEER(ROUND_KEY));
+    case MINIBOX: return pi_by_miniboxes(now.byte);
+    case PUT: return blnk_put(PEER(STATE), PEER(IN), now.byte);
+    case GET: return blnk_get(PEER(STATE), PEER(OUT), now.byte);
+    case ENC: return blnk_enc(PEER(STATE), PEER(IN), PEER(OUT), now.byte);
+    case DEC: return blnk_dec(PEER(STATE), PEER(IN), PEER(OUT), now.byte);
     case SEAL: return seal(PEER(KEY), PEER(NONCE), PEER(DATA), PEER(TEXT), PEER(RECEIVER));
     default: return unseal(PEER(KEY), PEER(NONCE), PEER(DATA), PEER(TEXT), PEER(RECEIVER));
     }
@@ -214,10 +232,13 @@ static uint8_t run_kit(void)
     switch (now.call) {
     case PERMUTE: return nb_permute(KIT(STATE));
     case PERMUTE_BACK: return nb_permute_back(KIT(STATE));
-    case PUT: return nb_put(KIT(STATE), KIT(IN), now.domain);
-    case GET: return nb_get(KIT(STATE), KIT(OUT), now.domain);
-    case ENC: return nb_enc(KIT(STATE), KIT(IN), KIT(OUT), now.domain);
-    case DEC: return nb_dec(KIT(STATE), KIT(IN), KIT(OUT), now.domain);
+    case ROUND: return nb_round(KIT(STATE), KIT(ROUND_KEY));
+    case ROUND_BACK: return nb_round_back(KIT(STATE), KIT(ROUND_KEY));
+    case MINIBOX: return nb_minibox(now.byte);
+    case PUT: return nb_put(KIT(STATE), KIT(IN), now.byte);
+    case GET: return nb_get(KIT(STATE), KIT(OUT), now.byte);
+    case ENC: return nb_enc(KIT(STATE), KIT(IN), KIT(OUT), now.byte);
+    case DEC: return nb_dec(KIT(STATE), KIT(IN), KIT(OUT), now.byte);
     case SEAL: return nb_seal(KIT(KEY), KIT(NONCE), KIT(DATA), KIT(TEXT), KIT(RECEIVER));
     default: return nb_open(KIT(KEY), KIT(NONCE), KIT(DATA), KIT(TEXT), KIT(RECEIVER));
     }
@@ -225,8 +246,8 @@ static uint8_t run_kit(void)
 
 static void print_case(uint64_t seed, uint64_t number)
 {
-    printf("compare: DIFFERENT at case %" PRIu64 " of seed %" PRIu64 ": %s, %s, domain %02X, "
-           "lengths", number, seed, calls[now.call], now.sort, now.domain);
+    printf("compare: DIFFERENT at case %" PRIu64 " of seed %" PRIu64 ": %s, %s, byte %02X, "
+           "lengths", number, seed, calls[now.call], now.sort, now.byte);
     for (int i = 0; i < STRIPS; i++)
         printf(" %lu", (unsigned long)strips[i].length);
     putchar('\n');
@@ -239,7 +260,7 @@ static bool agree(void)
     bool same = peer == kit;
 
     if (!same)
-        printf("compare: numbers: peer %u, library %u\n", peer, kit);
+        printf("compare: returned: peer %u, library %u\n", peer, kit);
     for (int i = 0; i < STRIPS; i++)
         if (strip_differs(&strips[i], "compare", names[i]))
             same = false;
@@ -262,6 +283,6 @@ int main(int argc, char **argv)
             return 1;
         }
     }
-    printf("compare: %" PRIu64 " cases of 8 calls agree (seed %" PRIu64 ")\n", cases, seed);
+    printf("compare: %" PRIu64 " cases of %d calls agree (seed %" PRIu64 ")\n", cases, CALLS, seed);
     return 0;
 }

@@ -166,7 +166,8 @@ static void add_constants(uint8_t state[PI_BYTES], int round)
         state[j] ^= pi_table[8 * round + j];
 }
 
-void pi_round(uint8_t state[PI_BYTES], int round)
+/* Substitution, shift and mix: a round before anything is added. */
+static void turn(uint8_t state[PI_BYTES])
 {
     uint8_t moved[PI_BYTES];
 
@@ -175,21 +176,31 @@ void pi_round(uint8_t state[PI_BYTES], int round)
         for (int j = 0; j < 8; j++)
             moved[8 * ((i + j) % 8) + j] = pi_table[state[8 * i + j]];
     times(moved, spool.matrix);
-    add_constants(moved, round);
     memcpy(state, moved, PI_BYTES);
 }
 
-void pi_round_back(uint8_t state[PI_BYTES], int round)
+static void turn_back(uint8_t state[PI_BYTES])
 {
     uint8_t moved[PI_BYTES];
 
     make_ready();
     memcpy(moved, state, PI_BYTES);
-    add_constants(moved, round);
     times(moved, spool.inverse);
     for (int i = 0; i < 8; i++)
         for (int j = 0; j < 8; j++)
             state[8 * i + j] = spool.table_back[moved[8 * ((i + j) % 8) + j]];
+}
+
+void pi_round(uint8_t state[PI_BYTES], int round)
+{
+    turn(state);
+    add_constants(state, round);
+}
+
+void pi_round_back(uint8_t state[PI_BYTES], int round)
+{
+    add_constants(state, round);
+    turn_back(state);
 }
 
 void pi_forward(uint8_t state[PI_BYTES])
@@ -217,5 +228,29 @@ uint8_t pi_permute_back(uint8_t *state, size_t state_length)
     if (state_length != PI_BYTES)
         return 2;
     pi_back(state);
+    return 0;
+}
+
+static void add_key(uint8_t state[PI_BYTES], const uint8_t key[PI_BYTES])
+{
+    for (int i = 0; i < PI_BYTES; i++)
+        state[i] ^= key[i];
+}
+
+uint8_t pi_keyed(uint8_t *state, size_t state_length, const uint8_t *key, size_t key_length)
+{
+    if (state_length != PI_BYTES || key_length != PI_BYTES)
+        return 2;
+    turn(state);
+    add_key(state, key);
+    return 0;
+}
+
+uint8_t pi_keyed_back(uint8_t *state, size_t state_length, const uint8_t *key, size_t key_length)
+{
+    if (state_length != PI_BYTES || key_length != PI_BYTES)
+        return 2;
+    add_key(state, key);
+    turn_back(state);
     return 0;
 }

@@ -29,4 +29,9 @@ void pi_back(uint8_t state[PI_BYTES]);
 uint8_t pi_permute(uint8_t *state, size_t state_length);
 uint8_t pi_permute_back(uint8_t *state, size_t state_length);
 
+/* A round in which 64 bytes of the caller's stand for the constants; 2 too for
+ * a key of another length. */
+uint8_t pi_keyed(uint8_t *state, size_t state_length, const uint8_t *key, size_t key_length);
+uint8_t pi_keyed_back(uint8_t *state, size_t state_length, const uint8_t *key, size_t key_length);
+
 #endif

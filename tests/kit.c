@@ -32,6 +32,44 @@ static void permutation(void)
     IS(nb_permute_back(state, 0) == NB_WRONG_LENGTH);
 }
 
+/* Table 1.1 by the miniboxes: the paper's 00, 01 and 80, and 256 values, each once. */
+static void miniboxes(void)
+{
+    uint8_t seen[256] = {0};
+    int x;
+
+    IS(nb_minibox(0x00) == 0x18 && nb_minibox(0x01) == 0x23 && nb_minibox(0x80) == 0x97);
+    for (x = 0; x < 256; x++)
+        seen[nb_minibox((uint8_t)x)]++;
+    for (x = 0; x < 256; x++)
+        IS(seen[x] == 1);
+}
+
+/* Twelve rounds with the constants, row 0 of round r having the table's entries from 8r on, are the permutation; a round is undone with its
+ * key; lengths that are refused. */
+static void rounds(void)
+{
+    uint8_t state[NB_STATE_BYTES], whole[NB_STATE_BYTES], before[NB_STATE_BYTES], constants[NB_STATE_BYTES] = {0}, longer[NB_STATE_BYTES + 1] = {0};
+    int r, j;
+
+    for (j = 0; j < NB_STATE_BYTES; j++)
+        before[j] = (uint8_t)(7 * j + 3);
+    memcpy(state, before, sizeof state);
+    memcpy(whole, before, sizeof whole);
+    for (r = 0; r < 12; r++) {
+        for (j = 0; j < 8; j++)
+            constants[j] = nb_minibox((uint8_t)(8 * r + j));
+        IS(nb_round(state, sizeof state, constants, sizeof constants) == NB_DONE);
+    }
+    IS(nb_permute(whole, sizeof whole) == NB_DONE && memcmp(state, whole, sizeof state) == 0);
+    memcpy(state, before, sizeof state);
+    IS(nb_round(state, sizeof state, whole, sizeof whole) == NB_DONE && memcmp(state, before, sizeof state) != 0);
+    IS(nb_round_back(state, sizeof state, whole, sizeof whole) == NB_DONE && memcmp(state, before, sizeof state) == 0);
+    IS(nb_round(state, sizeof state, longer, sizeof longer) == NB_WRONG_LENGTH && nb_round(state, 63, whole, sizeof whole) == NB_WRONG_LENGTH);
+    IS(nb_round_back(state, sizeof state, whole, 0) == NB_WRONG_LENGTH && memcmp(state, before, sizeof state) == 0);
+    IS(nb_round_back(longer, sizeof longer, whole, sizeof whole) == NB_WRONG_LENGTH && longer[0] == 0 && longer[NB_STATE_BYTES] == 0);
+}
+
 static void operations(void)
 {
     uint8_t here[NB_STATE_BYTES] = {0}, there[NB_STATE_BYTES] = {0}, cipher[33], back[33], tag[NB_TAG_BYTES];
@@ -100,6 +138,18 @@ static nb_wrote writing(void)
     return s;
 }
 
+/* A single block by hand: the mark that the rehearsal wrote at 3 is 01's eight bytes and what nb_seal gives under 01's nonce. */
+static void one_block(void)
+{
+    static const uint8_t front[8] = {0, 0, 0, 3, 3, 0, 0, 0}, payload[NB_BLOCK_PAYLOAD] = {0};
+    static const uint8_t number[NB_NONCE_BYTES] = {0, 0, 0, 1, 0, 0, 0, 0, 0, 0, 0, 1, 0, 0, 0, 3};
+    uint8_t block[NB_BLOCK_BYTES];
+
+    memcpy(block, front, sizeof front);
+    IS(nb_seal(key, sizeof key, number, sizeof number, front, sizeof front, payload, sizeof payload, block + 8, sizeof block - 8) == NB_DONE);
+    IS(memcmp(block, image + 3 * NB_BLOCK_BYTES, sizeof block) == 0);
+}
+
 static nb_got read_at(size_t p, size_t room)
 {
     return nb_read(key, sizeof key, 1, 1, image, sizeof image, p, buffer, room);
@@ -137,9 +187,12 @@ int main(void)
 {
     IS(NB_IMAGE_FEWEST == 4 && NB_IMAGE_MOST == 128 && NB_RATE_BYTES == 32 && NB_DOMAIN_NONCE == 0x20 && NB_DOMAIN_DATA == 0x40);
     permutation();
+    miniboxes();
+    rounds();
     operations();
     sealing();
     writing();
+    one_block();
     reading();
     if (faults == 0)
         puts("tests/kit.c: every call answers as it should");

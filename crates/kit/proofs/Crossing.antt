@@ -5,6 +5,7 @@ use mathlib.Core.Path.{_≡_, refl, sym, ap, _∙_}
 use mathlib.Core.List.{List}
 use Prim.Native.Nat.{ℕ, _*_, _≤_, _<_}
 use lib.ListN.{length}
+use Rattle.writer.specs.declared.WriterState.{WriterState}
 use Rattle.writer.specs.declared.Wrote.{Wrote}
 use Rattle.writer.specs.Writing.{Done, Did, answer}
 use Rattle.reader.specs.declared.Got.{Got}
@@ -13,16 +14,17 @@ use Rattle.kit.specs.declared.NbWrote.{NbWrote}
 use Rattle.kit.specs.declared.NbGot.{NbGot}
 use Rattle.kit.specs.declared.NbPart.{NbPart}
 use Rattle.kit.specs.FlatReader.{flatGot, FlatRead, lookedAt}
-use Rattle.kit.specs.FlatWriter.{flatWrote, given, flagNumber, FlatDid, FlatStarted}
+use Rattle.kit.specs.FlatWriter.{flatWrote, stateOf, given, flagNumber, FlatDid, FlatStarted}
 
-module _ {id recording capacity zone position closed : ℕ} {key image : List ℕ} {d : Done} where
-  pub other-flag : {n : ℕ} → 1 < closed → n ≡ flagNumber key image
-      → FlatDid id recording capacity zone position closed key image d (given id recording capacity zone position closed n) image
-  other-flag h e = record { says = rw (lt-leb closed 1 h) (ap (given id recording capacity zone position closed) e); leaves = rw (lt-leb closed 1 h) }
+module _ {id recording capacity zone position closed : ℕ} {key image : List ℕ} {r : NbWrote} where
+  pub other-flag : {d : Done} → 1 < closed → r ≡ given id recording capacity zone position closed (flagNumber key image)
+      → FlatDid id recording capacity zone position closed key image d r image
+  other-flag h e = record { says = rw (lt-leb closed 1 h) e; leaves = rw (lt-leb closed 1 h) }
 
-  pub called : {w : Wrote} {r : NbWrote} {image′ : List ℕ} → closed ≤ 1 → Did d w image′ → r ≡ flatWrote w
-      → FlatDid id recording capacity zone position closed key image d r image′
-  called h c e = record { says = rw (le-leb closed 1 h) (e ∙ ap flatWrote (c .says)); leaves = rw (le-leb closed 1 h) (c .leaves) }
+  pub called : (does : WriterState → Done) {s : WriterState} {w : Wrote} {image′ : List ℕ} → closed ≤ 1 → s ≡ stateOf id recording capacity zone position closed
+      → Did (does s) w image′ → r ≡ flatWrote w
+      → FlatDid id recording capacity zone position closed key image (does (stateOf id recording capacity zone position closed)) r image′
+  called does h q c e = record { says = rw (le-leb closed 1 h, ← q) (e ∙ ap flatWrote (c .says)); leaves = rw (le-leb closed 1 h, ← q) (c .leaves) }
 
 pub began : {d : Done} {w : Wrote} {r : NbWrote} {image′ : List ℕ} → Did d w image′ → r ≡ flatWrote w → FlatStarted d r image′
 began c e = record { says = e ∙ ap flatWrote (c .says); leaves = c .leaves }

@@ -1,7 +1,8 @@
 // The kit for C: a thin boundary. Each `nb_` function is the call of its name, with the same definitions in its contract; a slice crosses as a
 // pointer and a length.
 ghost use mathlib.Core.Path.{_≡_};
-ghost use Rattle.permutation.specs.Permutation.{π, π⁻, Permuted};
+ghost use Rattle.permutation.specs.Table.{S};
+ghost use Rattle.permutation.specs.Permutation.{round, round⁻, π, π⁻, Permuted, Rounded};
 ghost use Rattle.sponge.specs.Blink.{get, enc, dec, Put, Ran};
 ghost use Rattle.aead.specs.Sealing.{Sealed, Opened};
 ghost use Rattle.block.specs.Content.{flag};
@@ -35,6 +36,27 @@ pub extern "C" fn nb_permute_back(state: &mut [u8]) -> u8
     ensures { λ r. ⌜ Permuted π⁻ (now (state .entry)) r (now (state .exit)) ⌝ }
 {
     permutation::permute_back(state)
+}
+
+#[no_mangle]
+pub extern "C" fn nb_round(state: &mut [u8], key: &[u8]) -> u8
+    ensures { λ r. ⌜ Rounded round (now (key .entry)) (now (state .entry)) r (now (state .exit)) ⌝ }
+{
+    permutation::round(state, key)
+}
+
+#[no_mangle]
+pub extern "C" fn nb_round_back(state: &mut [u8], key: &[u8]) -> u8
+    ensures { λ r. ⌜ Rounded round⁻ (now (key .entry)) (now (state .entry)) r (now (state .exit)) ⌝ }
+{
+    permutation::round_back(state, key)
+}
+
+#[no_mangle]
+pub extern "C" fn nb_minibox(x: u8) -> u8
+    ensures { λ r. ⌜ r ≡ S x ⌝ }
+{
+    permutation::minibox(x)
 }
 
 // ---- The block operations.
@@ -149,6 +171,27 @@ fn flat(wrote: Wrote) -> NbWrote
     }
 }
 
+// A state from its numbers, where the flag is 0 or 1.
+fn state_of(
+    id: u32,
+    recording: u64,
+    capacity: usize,
+    zone: usize,
+    position: usize,
+    closed: u8,
+) -> WriterState
+    ensures { λ r. ⌜ r ≡ stateOf id recording capacity zone position closed ⌝ }
+{
+    WriterState {
+        id,
+        recording,
+        capacity,
+        zone,
+        position,
+        closed: closed == 1,
+    }
+}
+
 // The number of a state whose flag is neither 0 nor 1.
 fn flag_number(key: &[u8], image: &[u8]) -> u8
     ensures { λ r. ⌜ r ≡ flagNumber (now (key .entry)) (now (image .entry)) ⌝ }
@@ -160,6 +203,31 @@ fn flag_number(key: &[u8], image: &[u8]) -> u8
         return 2;
     }
     8
+}
+
+// The answer to it: its numbers as they were given.
+fn refused_flag(
+    id: u32,
+    recording: u64,
+    capacity: usize,
+    zone: usize,
+    position: usize,
+    closed: u8,
+    key: &[u8],
+    image: &[u8],
+) -> NbWrote
+    ensures { λ r. ⌜ r ≡ given id recording capacity zone position closed (flagNumber (now (key .entry)) (now (image .entry))) ⌝ }
+{
+    NbWrote {
+        id,
+        recording,
+        capacity,
+        zone,
+        position,
+        closed,
+        reply: 2,
+        number: flag_number(key, image),
+    }
 }
 
 #[no_mangle]
@@ -184,26 +252,9 @@ pub extern "C" fn nb_record(
     ensures { λ r. ⌜ FlatDid id recording capacity zone position closed (now (key .entry)) (now (image .entry)) (write (stateOf id recording capacity zone position closed) (now (key .entry)) (now (image .entry)) (rec (now (bytes .entry)))) r (now (image .exit)) ⌝ }
 {
     if 1 < closed {
-        let number = flag_number(key, image);
-        return NbWrote {
-            id,
-            recording,
-            capacity,
-            zone,
-            position,
-            closed,
-            reply: 2,
-            number,
-        };
+        return refused_flag(id, recording, capacity, zone, position, closed, key, image);
     }
-    let state = WriterState {
-        id,
-        recording,
-        capacity,
-        zone,
-        position,
-        closed: closed == 1,
-    };
+    let state = state_of(id, recording, capacity, zone, position, closed);
     flat(state.record(key, bytes, image))
 }
 
@@ -221,26 +272,9 @@ pub extern "C" fn nb_mark(
     ensures { λ r. ⌜ FlatDid id recording capacity zone position closed (now (key .entry)) (now (image .entry)) (write (stateOf id recording capacity zone position closed) (now (key .entry)) (now (image .entry)) fmark) r (now (image .exit)) ⌝ }
 {
     if 1 < closed {
-        let number = flag_number(key, image);
-        return NbWrote {
-            id,
-            recording,
-            capacity,
-            zone,
-            position,
-            closed,
-            reply: 2,
-            number,
-        };
+        return refused_flag(id, recording, capacity, zone, position, closed, key, image);
     }
-    let state = WriterState {
-        id,
-        recording,
-        capacity,
-        zone,
-        position,
-        closed: closed == 1,
-    };
+    let state = state_of(id, recording, capacity, zone, position, closed);
     flat(state.mark(key, image))
 }
 
@@ -258,26 +292,9 @@ pub extern "C" fn nb_close(
     ensures { λ r. ⌜ FlatDid id recording capacity zone position closed (now (key .entry)) (now (image .entry)) (close (stateOf id recording capacity zone position closed) (now (key .entry)) (now (image .entry))) r (now (image .exit)) ⌝ }
 {
     if 1 < closed {
-        let number = flag_number(key, image);
-        return NbWrote {
-            id,
-            recording,
-            capacity,
-            zone,
-            position,
-            closed,
-            reply: 2,
-            number,
-        };
+        return refused_flag(id, recording, capacity, zone, position, closed, key, image);
     }
-    let state = WriterState {
-        id,
-        recording,
-        capacity,
-        zone,
-        position,
-        closed: closed == 1,
-    };
+    let state = state_of(id, recording, capacity, zone, position, closed);
     flat(state.close(key, image))
 }
 
