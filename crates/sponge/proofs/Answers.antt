@@ -10,9 +10,11 @@ use lib.Dec.{eqb, leb}
 use lib.ListN.{length, take}
 use lib.Seq.{take-all}
 use Rattle.laws.specs.Choose.{firstOf}
+use Rattle.laws.specs.Lists.{splice}
 use Rattle.permutation.specs.Permutation.{π, whole, Permuted}
 use Rattle.sponge.specs.Blink.{Op, put, after, out, number, Put, Ran}
 use Rattle.sponge.specs.Ways.{Done}
+use Rattle.sponge.proofs.Groups.{laid}
 
 -- the permutation, of a state of 64 bytes
 pub turned : {s t u : List ℕ} {r : ℕ} → Permuted π t r u → t ≡ s → length t ≡ 64 → u ≡ π s
@@ -64,7 +66,7 @@ module _ (op : Op) (domain : ℕ) (s v o : List ℕ) (r : ℕ) (e : r ≡ number
       }
 
 -- the bytes that are copied into the buffer are s
-pub copied : (s v o s₁ : List ℕ) (r : ℕ) → r ≡ number v s o → r ≡ 0 → s₁ ≡ take (length o) s → s₁ ≡ s
+pub copied : (s v o s₁ : List ℕ) (r : ℕ) → r ≡ number v s o → r ≡ 0 → s₁ ≡ splice o 0 (take (length o) s) → s₁ ≡ s
 copied s v o s₁ r e z c =
     let l = allowed v s o (sym e ∙ z) .same in
-    c ∙ take-all (length o) s (omega arith)
+    c ∙ laid o s (omega arith) ∙ take-all (length o) s (omega arith)

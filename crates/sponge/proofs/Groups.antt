@@ -11,7 +11,7 @@ use Rattle.laws.specs.Lists.{listed, splice}
 use Rattle.laws.specs.Xor.{xor}
 use Rattle.laws.proofs.ListLaws.{listed-take}
 use Rattle.laws.proofs.OrderLaws.{lt-or-ge}
-use Rattle.laws.proofs.SpliceLaws.{length-splice, take-splice, splice-before, splice-after}
+use Rattle.laws.proofs.SpliceLaws.{length-splice, splice-whole, take-splice, splice-before, splice-after}
 use Rattle.laws.proofs.XorLaws.{xor-zero, xor-back}
 use Rattle.permutation.specs.Permutation.{state, added}
 use Rattle.permutation.proofs.Build.{state-length, state-at, state-is}
@@ -19,6 +19,10 @@ use Rattle.permutation.proofs.Build.{state-length, state-at, state-is}
 -- the rule of the loops that put a group and the state together
 unfoldable pub both : List ℕ → List ℕ → ℕ → ℕ
 both v g k = xor (getD v k 0) (getD g k 0)
+
+-- what `buffer::copy` leaves of a source that is no shorter
+pub laid : (to from : List ℕ) → length to ≤ length from → splice to 0 (take (length to) from) ≡ take (length to) from
+laid to from h = splice-whole to (take (length to) from) (length-take-le (length to) from h)
 
 pub added-length : (g v : List ℕ) → length (added g v) ≡ 64
 unfolding added

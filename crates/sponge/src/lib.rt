@@ -40,16 +40,6 @@ fn mask(group: &mut [u8], state: &[u8])
     }
 }
 
-// The front of `from` over `to`.
-fn copy(to: &mut [u8], from: &[u8])
-    requires { ⌜ length (now to) ≤ length (now from) ⌝ }
-    ensures { λ _. ⌜ now (to .exit) ≡ take (length (now (to .entry))) (now (from .entry)) ⌝ }
-{
-    for k in 0..to.len() {
-        to[k] = from[k];
-    }
-}
-
 // dec masks the ciphertext; the plaintext, added, then makes it the state's front.
 fn work(way: Way, state: &mut [u8], group: &mut [u8])
     requires { ⌜ (length (now state) ≡ 64) × (length (now group) ≤ 32) ⌝ }
@@ -57,11 +47,11 @@ fn work(way: Way, state: &mut [u8], group: &mut [u8])
 {
     match way {
         Way::Get => {
-            copy(group, state);
+            buffer::copy(group, state);
         }
         Way::Enc => {
             add(state, group);
-            copy(group, state);
+            buffer::copy(group, state); // the ciphertext
         }
         Way::Dec => {
             mask(group, state);
@@ -185,7 +175,7 @@ fn through(way: Way, state: &mut [u8], bytes: &[u8], out: &mut [u8], domain: u8)
     if no != 0 {
         return no;
     }
-    copy(out, bytes);
+    buffer::copy(out, bytes);
     run(way, state, out, domain);
     0
 }

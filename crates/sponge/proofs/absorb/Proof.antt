@@ -3,7 +3,6 @@
 use mathlib.Core.Path.{_≡_, ap, _∙_}
 use Prim.Native.Nat.{_+_, _-_, _*_, _≤_}
 use native.Mathlib.Omega.{arith}
-use borrow.Author.Needs.{needs}
 use lib.ListN.{length}
 use Rattle.sponge.specs.Blink.{put, kept, met}
 use Rattle.sponge.proofs.Steps.{met-none, met-more, met-last, group-is}
@@ -18,10 +17,10 @@ abbrev μ-loop : tie.MeasureT-loop
 μ-loop state₀ bytes domain n m k₀ state k = m - k
 
 last-requires : tie.Need-last-requires Inv-loop μ-loop
-last-requires c κs = search needs
+last-requires c κs = tt
 
 loop-holds : tie.Need-loop-holds Inv-loop μ-loop
-loop-holds c = (search needs, search needs, met-none _ _ _ _)
+loop-holds c = (omega arith, omega arith, met-none _ _ _ _)
 
 mul-at : tie.Need-mul-at Inv-loop μ-loop
 mul-at c = omega arith
@@ -39,10 +38,10 @@ part-add-end : tie.Need-part-add-end Inv-loop μ-loop
 part-add-end c = omega arith
 
 add-requires : tie.Need-add-requires Inv-loop μ-loop
-add-requires c κs = search needs
+add-requires c κs = (omega arith, omega arith)
 
 between-requires : tie.Need-between-requires Inv-loop μ-loop
-between-requires c κs = search needs
+between-requires c κs = omega arith
 
 add-k : tie.Need-add-k Inv-loop μ-loop
 add-k c = omega arith
@@ -77,16 +76,16 @@ part-add-end-2 : tie.Need-part-add-end-2 Inv-loop μ-loop
 part-add-end-2 c = omega arith
 
 add-requires-2 : tie.Need-add-requires-2 Inv-loop μ-loop
-add-requires-2 c κs = search needs
+add-requires-2 c κs = (omega arith, omega arith)
 
 sub-close : tie.Need-sub-close Inv-loop μ-loop
 sub-close c = omega arith
 
 close-requires : tie.Need-close-requires Inv-loop μ-loop
-close-requires c κs = search needs
+close-requires c κs = (omega arith, omega arith)
 
 same-length : tie.Need-same-length Inv-loop μ-loop
-same-length c = search needs
+same-length c = omega arith
 
 returns : tie.Need-returns Inv-loop μ-loop
 unfolding kept

@@ -1,19 +1,18 @@
 -- `sponge::between` meets its contract: the padding, then π of a state that has 64 bytes.
 -- Assumes nothing.
 use native.Mathlib.Omega.{arith}
-use borrow.Author.Needs.{needs}
 use Rattle.sponge.proofs.Answers.{turned}
 use Rattle.sponge.proofs.between.Statement.{statement}
 use Rattle.sponge.proofs.between.Tie as tie
 
 mark-requires : tie.Need-mark-requires
-mark-requires c κs = search needs
+mark-requires c κs = omega arith
 
 permute-requires : tie.Need-permute-requires
-permute-requires c κs = search needs
+permute-requires c κs = tt
 
 same-length : tie.Need-same-length
-same-length c = search needs
+same-length c = omega arith
 
 returns : tie.Need-returns
 returns c = turned (c .before .before .permute .ensures) (c .before .before .before .before .before .before .mark .ensures) (omega arith)

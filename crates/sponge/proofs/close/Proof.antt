@@ -2,7 +2,6 @@
 -- Assumes nothing.
 use mathlib.Core.Path.{ap, _∙_}
 use native.Mathlib.Omega.{arith}
-use borrow.Author.Needs.{needs}
 use Rattle.laws.specs.Xor.{xor}
 use Rattle.sponge.specs.Blink.{into}
 use Rattle.sponge.proofs.Answers.{turned}
@@ -10,16 +9,16 @@ use Rattle.sponge.proofs.close.Statement.{statement}
 use Rattle.sponge.proofs.close.Tie as tie
 
 mark-requires : tie.Need-mark-requires
-mark-requires c κs = search needs
+mark-requires c κs = omega arith
 
 mark-requires-2 : tie.Need-mark-requires-2
-mark-requires-2 c κs = search needs
+mark-requires-2 c κs = omega arith
 
 permute-requires : tie.Need-permute-requires
-permute-requires c κs = search needs
+permute-requires c κs = tt
 
 same-length : tie.Need-same-length
-same-length c = search needs
+same-length c = omega arith
 
 returns : tie.Need-returns
 unfolding xor

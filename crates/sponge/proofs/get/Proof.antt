@@ -1,19 +1,19 @@
 -- `sponge::get` meets its contract: refused with the number, or done.
 -- Assumes nothing.
 use mathlib.Core.Path.{refl, sym, _∙_}
-use borrow.Author.Needs.{needs}
+use native.Mathlib.Omega.{arith}
 use Rattle.sponge.proofs.Answers.{allowed, ran-refused, ran-done}
 use Rattle.sponge.proofs.get.Statement.{statement}
 use Rattle.sponge.proofs.get.Tie as tie
 
 number-requires : tie.Need-number-requires
-number-requires c κs = search needs
+number-requires c κs = tt
 
 same-length : tie.Need-same-length
-same-length c = search needs
+same-length c = omega arith
 
 same-length-2 : tie.Need-same-length-2
-same-length-2 c = search needs
+same-length-2 c = omega arith
 
 returns : tie.Need-returns
 returns c = ran-refused _ _ _ _ _ _ (c .before .number .ensures) (c .if1 .taken)
@@ -25,10 +25,10 @@ run-requires c κs =
     (a .full, a .few)
 
 same-length-3 : tie.Need-same-length-3
-same-length-3 c = search needs
+same-length-3 c = omega arith
 
 same-length-4 : tie.Need-same-length-4
-same-length-4 c = search needs
+same-length-4 c = omega arith
 
 returns-2 : tie.Need-returns-2
 returns-2 c =

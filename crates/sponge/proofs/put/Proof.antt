@@ -1,16 +1,16 @@
 -- `sponge::put` meets its contract: refused with the number, or done.
 -- Assumes nothing.
 use mathlib.Core.Path.{sym, _∙_}
-use borrow.Author.Needs.{needs}
+use native.Mathlib.Omega.{arith}
 use Rattle.sponge.proofs.Answers.{allowed, put-refused, put-done}
 use Rattle.sponge.proofs.put.Statement.{statement}
 use Rattle.sponge.proofs.put.Tie as tie
 
 number-requires : tie.Need-number-requires
-number-requires c κs = search needs
+number-requires c κs = tt
 
 same-length : tie.Need-same-length
-same-length c = search needs
+same-length c = omega arith
 
 returns : tie.Need-returns
 returns c = put-refused _ _ _ _ (c .before .number .ensures) (c .if1 .taken)
@@ -22,7 +22,7 @@ absorb-requires c κs =
     (a .full, a .few)
 
 same-length-2 : tie.Need-same-length-2
-same-length-2 c = search needs
+same-length-2 c = omega arith
 
 returns-2 : tie.Need-returns-2
 returns-2 c =

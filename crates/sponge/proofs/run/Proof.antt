@@ -4,7 +4,6 @@ use mathlib.Core.Path.{_≡_, refl, ap, _∙_}
 use mathlib.Core.List.{_++_}
 use Prim.Native.Nat.{ℕ, min, _+_, _-_, _*_, _≤_}
 use native.Mathlib.Omega.{arith}
-use borrow.Author.Needs.{needs}
 use lib.ListN.{length, drop}
 use Rattle.sponge.specs.Blink.{met, gave}
 use Rattle.sponge.specs.Ways.{opOf}
@@ -21,10 +20,10 @@ abbrev μ-loop : tie.MeasureT-loop
 μ-loop way state₀ io₀ domain n m k₀ state io k = m - k
 
 last-requires : tie.Need-last-requires Inv-loop μ-loop
-last-requires c κs = search needs
+last-requires c κs = tt
 
 loop-holds : tie.Need-loop-holds Inv-loop μ-loop
-loop-holds c = (search needs, search needs, refl, met-none _ _ _ _, gave-none _ _ _ _)
+loop-holds c = (omega arith, omega arith, refl, met-none _ _ _ _, gave-none _ _ _ _)
 
 mul-at : tie.Need-mul-at Inv-loop μ-loop
 mul-at c = omega arith
@@ -42,10 +41,10 @@ part-work-end : tie.Need-part-work-end Inv-loop μ-loop
 part-work-end c = omega arith
 
 work-requires : tie.Need-work-requires Inv-loop μ-loop
-work-requires c κs = search needs
+work-requires c κs = (omega arith, omega arith)
 
 between-requires : tie.Need-between-requires Inv-loop μ-loop
-between-requires c κs = search needs
+between-requires c κs = omega arith
 
 add-k : tie.Need-add-k Inv-loop μ-loop
 add-k c = omega arith
@@ -71,7 +70,7 @@ loop-again c =
     let g = part-is op t (a .domain) v s k _ (at .loop .io) full i n (at .loop .inv .4) in (
       omega arith,
       b .between .kept .0 ∙ w .work .kept .1 .0 ∙ at .loop .inv .1,
-      search needs,
+      omega arith,
       met-more op (a .domain) v s k _ _ _ _ (at .loop .inv .3) g (w .work .ensures .state) (omega arith) (b .between .ensures),
       gave-more op t (a .domain) v s k _ (at .loop .io) full i n (at .loop .inv .4) _ _ _ (at .loop .inv .3) g (w .work .ensures .bytes),
     )
@@ -89,19 +88,19 @@ part-work-end-2 : tie.Need-part-work-end-2 Inv-loop μ-loop
 part-work-end-2 c = omega arith
 
 work-requires-2 : tie.Need-work-requires-2 Inv-loop μ-loop
-work-requires-2 c κs = search needs
+work-requires-2 c κs = (omega arith, omega arith)
 
 sub-close : tie.Need-sub-close Inv-loop μ-loop
 sub-close c = omega arith
 
 close-requires : tie.Need-close-requires Inv-loop μ-loop
-close-requires c κs = search needs
+close-requires c κs = (omega arith, omega arith)
 
 same-length : tie.Need-same-length Inv-loop μ-loop
-same-length c = search needs
+same-length c = omega arith
 
 same-length-2 : tie.Need-same-length-2 Inv-loop μ-loop
-same-length-2 c = search needs
+same-length-2 c = omega arith
 
 returns : tie.Need-returns Inv-loop μ-loop
 returns c =

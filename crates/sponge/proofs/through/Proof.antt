@@ -2,28 +2,24 @@
 -- Assumes nothing.
 use mathlib.Core.Path.{sym, _∙_}
 use native.Mathlib.Omega.{arith}
-use borrow.Author.Needs.{needs}
 use Rattle.sponge.proofs.Answers.{allowed, ran-refused, ran-done, copied}
 use Rattle.sponge.proofs.through.Statement.{statement}
 use Rattle.sponge.proofs.through.Tie as tie
 
 number-requires : tie.Need-number-requires
-number-requires c κs = search needs
+number-requires c κs = tt
 
 same-length : tie.Need-same-length
-same-length c = search needs
+same-length c = omega arith
 
 same-length-2 : tie.Need-same-length-2
-same-length-2 c = search needs
+same-length-2 c = omega arith
 
 returns : tie.Need-returns
 returns c = ran-refused _ _ _ _ _ _ (c .before .number .ensures) (c .if1 .taken)
 
 copy-requires : tie.Need-copy-requires
-copy-requires c κs =
-    let n = c .before .before in
-    let a = allowed _ _ _ (sym (n .number .ensures) ∙ c .before .if1 .left) in
-    omega arith
+copy-requires c κs = tt
 
 run-requires : tie.Need-run-requires
 run-requires c κs =
@@ -34,10 +30,10 @@ run-requires c κs =
     (a .full, omega arith)
 
 same-length-3 : tie.Need-same-length-3
-same-length-3 c = search needs
+same-length-3 c = omega arith
 
 same-length-4 : tie.Need-same-length-4
-same-length-4 c = search needs
+same-length-4 c = omega arith
 
 returns-2 : tie.Need-returns-2
 returns-2 c =

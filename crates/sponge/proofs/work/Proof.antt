@@ -6,23 +6,24 @@ use Prim.Native.Nat.{ℕ, _≤_}
 use native.Mathlib.Omega.{arith}
 use borrow.Author.Needs.{needs}
 use lib.ListN.{length, take}
+use Rattle.laws.specs.Lists.{splice}
 use Rattle.permutation.specs.Permutation.{added}
 use Rattle.sponge.specs.Blink.{kept, given}
 use Rattle.sponge.specs.Ways.{opOf, Worked}
 use Rattle.sponge.specs.declared.Way.{Way}
 use Rattle.sponge.specs.declared.Way.the-variants.{Get, Enc, Dec}
-use Rattle.sponge.proofs.Groups.{added-masked}
+use Rattle.sponge.proofs.Groups.{laid, added-masked}
 use Rattle.sponge.proofs.work.Statement.{statement}
 use Rattle.sponge.proofs.work.Tie as tie
 
 module _ (way : Way) (g v v′ g′ : List ℕ) where
-  worked-get : way ≡ Get → v′ ≡ v → g′ ≡ take (length g) v → Worked (opOf way) g v v′ g′
+  worked-get : way ≡ Get → v′ ≡ v → g′ ≡ splice g 0 (take (length g) v) → length g ≤ length v → Worked (opOf way) g v v′ g′
   unfolding kept given
-  worked-get w s b = rw w (record { state = s; bytes = b })
+  worked-get w s b fits = rw w (record { state = s; bytes = b ∙ laid g v fits })
 
-  worked-enc : way ≡ Enc → v′ ≡ added g v → g′ ≡ take (length g) v′ → Worked (opOf way) g v v′ g′
+  worked-enc : way ≡ Enc → v′ ≡ added g v → g′ ≡ splice g 0 (take (length g) v′) → length g ≤ length v′ → Worked (opOf way) g v v′ g′
   unfolding kept given
-  worked-enc w s b = rw w (record { state = s; bytes = b ∙ ap (take (length g)) s })
+  worked-enc w s b fits = rw w (record { state = s; bytes = b ∙ laid g v′ fits ∙ ap (take (length g)) s })
 
   worked-dec : way ≡ Dec → v′ ≡ added g′ v → g′ ≡ take (length g) (added g v) → length g ≤ 64 → length v ≡ 64 → Worked (opOf way) g v v′ g′
   unfolding kept given
@@ -32,54 +33,54 @@ enum-told : tie.Need-enum-told
 enum-told c = search needs
 
 copy-requires : tie.Need-copy-requires
-copy-requires c κs = search needs
+copy-requires c κs = tt
 
 enum-told-2 : tie.Need-enum-told-2
 enum-told-2 c = search needs
 
 add-requires : tie.Need-add-requires
-add-requires c κs = search needs
+add-requires c κs = (omega arith, omega arith)
 
 copy-requires-2 : tie.Need-copy-requires-2
-copy-requires-2 c κs = search needs
+copy-requires-2 c κs = tt
 
 enum-told-3 : tie.Need-enum-told-3
 enum-told-3 c = search needs
 
 mask-requires : tie.Need-mask-requires
-mask-requires c κs = search needs
+mask-requires c κs = (omega arith, omega arith)
 
 add-requires-2 : tie.Need-add-requires-2
-add-requires-2 c κs = search needs
+add-requires-2 c κs = (omega arith, omega arith)
 
 same-length : tie.Need-same-length
-same-length c = search needs
+same-length c = omega arith
 
 same-length-2 : tie.Need-same-length-2
-same-length-2 c = search needs
+same-length-2 c = omega arith
 
 returns : tie.Need-returns
 returns c =
     let o = c .before .before in
-    worked-get _ _ _ _ _ (o .before .before .before .enum-told .given .1) refl (o .copy .ensures)
+    worked-get _ _ _ _ _ (o .before .before .before .enum-told .given .1) refl (o .copy .ensures) (omega arith)
 
 same-length-3 : tie.Need-same-length-3
-same-length-3 c = search needs
+same-length-3 c = omega arith
 
 same-length-4 : tie.Need-same-length-4
-same-length-4 c = search needs
+same-length-4 c = omega arith
 
 returns-2 : tie.Need-returns-2
 returns-2 c =
     let o = c .before .before in
     let d = o .before .before .before .before .before in
-    worked-enc _ _ _ _ _ (d .before .before .before .enum-told2 .given .1) (d .add .ensures) (o .copy2 .ensures)
+    worked-enc _ _ _ _ _ (d .before .before .before .enum-told2 .given .1) (d .add .ensures) (o .copy2 .ensures) (omega arith)
 
 same-length-5 : tie.Need-same-length-5
-same-length-5 c = search needs
+same-length-5 c = omega arith
 
 same-length-6 : tie.Need-same-length-6
-same-length-6 c = search needs
+same-length-6 c = omega arith
 
 returns-3 : tie.Need-returns-3
 returns-3 c =
