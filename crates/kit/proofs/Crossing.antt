@@ -1,13 +1,13 @@
 -- What crosses: a call on a state's numbers, where the flag is neither 0 nor 1 or the writer's call is made; the reader's answers.
 -- Assumes nothing.
 use borrow.Author.Tests.{eq-eqb, ne-eqb, le-leb, lt-leb}
-use mathlib.Core.Path.{_≡_, refl, sym, ap, _∙_}
+use mathlib.Core.Path.{_≡_, sym, ap, _∙_}
 use mathlib.Core.List.{List}
 use Prim.Native.Nat.{ℕ, _*_, _≤_, _<_}
 use lib.ListN.{length}
 use Rattle.writer.specs.declared.WriterState.{WriterState}
 use Rattle.writer.specs.declared.Wrote.{Wrote}
-use Rattle.writer.specs.Writing.{Done, Did, answer}
+use Rattle.writer.specs.Writing.{Done, Did}
 use Rattle.reader.specs.declared.Got.{Got}
 use Rattle.reader.specs.Reading.{Read, lookNumber, lookPart, lookPlace}
 use Rattle.kit.specs.declared.NbWrote.{NbWrote}

@@ -1,7 +1,7 @@
 -- `kit::nb_record_part` meets its contract: the part's place and length.
 -- Assumes nothing.
 use borrow.Author.Needs.{needs}
-use mathlib.Core.Path.{_≡_, refl, ap}
+use mathlib.Core.Path.{_≡_, ap}
 use Prim.Native.Nat.{ℕ}
 use lib.ListN.{length}
 use Rattle.kit.specs.declared.NbPart.{NbPart}
