@@ -73,7 +73,7 @@ static void rounds(void)
 static void operations(void)
 {
     uint8_t here[NB_STATE_BYTES] = {0}, there[NB_STATE_BYTES] = {0}, cipher[33], back[33], tag[NB_TAG_BYTES];
-    uint8_t *most = calloc(NB_OPERATION_MAX + 1, 1);
+    uint8_t *most = calloc(NB_OPERATION_MAX + 1, 1), *room = calloc(NB_OPERATION_MAX + 1, 1);
 
     IS(nb_put(here, sizeof here, key, sizeof key, NB_DOMAIN_KEY) == NB_DONE);
     IS(nb_put(there, sizeof there, key, sizeof key, NB_DOMAIN_KEY) == NB_DONE);
@@ -87,7 +87,10 @@ static void operations(void)
     IS(nb_put(here, sizeof here, most, NB_OPERATION_MAX, 0) == NB_DONE);
     IS(nb_put(here, sizeof here, most, NB_OPERATION_MAX + 1, 0) == NB_ABOVE_LIMIT);
     IS(nb_get(here, sizeof here, most, NB_OPERATION_MAX + 1, 0) == NB_ABOVE_LIMIT);
+    IS(nb_enc(here, sizeof here, most, NB_OPERATION_MAX + 1, room, NB_OPERATION_MAX + 1, 0) == NB_ABOVE_LIMIT);
+    IS(nb_dec(here, sizeof here, most, NB_OPERATION_MAX + 1, room, NB_OPERATION_MAX + 1, 0) == NB_ABOVE_LIMIT);
     free(most);
+    free(room);
 }
 
 static void sealing(void)
@@ -133,6 +136,11 @@ static nb_wrote writing(void)
     s = nb_close(s.id, s.recording, s.capacity, s.zone, s.position, s.closed, key, sizeof key, image, sizeof image);
     IS(s.position == 8 && s.closed == 1 && s.reply == NB_PLAIN);
     IS(record(s, 1).number == NB_CLOSED);
+    IS(nb_mark(s.id, s.recording, s.capacity, s.zone, s.position, s.closed, key, sizeof key, image, sizeof image).number == NB_CLOSED);
+    IS(nb_close(s.id, s.recording, s.capacity, s.zone, s.position, s.closed, key, sizeof key, image, sizeof image).number == NB_CLOSED);
+    IS(nb_mark(s.id, s.recording, s.capacity, s.zone, 7, 0, key, sizeof key, image, sizeof image).number == NB_NO_ROOM);
+    IS(nb_close(s.id, s.recording, s.capacity, s.zone, 8, 0, key, sizeof key, image, sizeof image).number == NB_WRONG_STATE);
+    IS(nb_close(s.id, s.recording, s.capacity, s.zone, 8, 1, key, 23, image, sizeof image).number == NB_WRONG_LENGTH);
     s.closed = 2;
     IS(record(s, 1).number == NB_WRONG_STATE && record(s, 1).closed == 2);
     return s;
@@ -181,6 +189,7 @@ static void reading(void)
     image[2 * NB_BLOCK_BYTES + 9] ^= 1;
     IS(read_at(1, NB_RECORD_MAX).outcome == NB_GOT_CUT && read_at(1, NB_RECORD_MAX).data == 2 && read_at(1, NB_RECORD_MAX).next == 3);
     IS(nb_report(key, sizeof key, 1, 1, image, 100).number == NB_WRONG_IMAGE);
+    IS(nb_space(key, sizeof key, 1, 1, image, sizeof image, BLOCKS, 0).kind == NB_SPACED_REFUSED);
 }
 
 int main(void)
