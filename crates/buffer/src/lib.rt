@@ -1,7 +1,9 @@
-// What every layer does with lent buffers: zero one, copy into one, compare two.
+// What every layer does with lent buffers: zero one, copy or add into one, compare two.
 ghost use mathlib.Core.Path.{_≡_};
+ghost use Prim.Native.Nat.{min};
 ghost use lib.ListN.{length, take, replicate};
 ghost use Rattle.laws.specs.Lists.{splice, same};
+ghost use Rattle.laws.specs.Xor.{xorInto};
 
 // Fills `out` with zeros.
 pub fn zero(out: &mut [u8])
@@ -25,6 +27,22 @@ pub fn copy(to: &mut [u8], from: &[u8])
         }
         to[at] = from[at];
         at += 1;
+    }
+}
+
+fn shorter(a: usize, b: usize) -> usize
+    ensures { λ r. ⌜ r ≡ min a b ⌝ }
+{
+    if a < b { a } else { b }
+}
+
+// Takes `from` into the front of `to` by xor, as far as both go.
+pub fn add(to: &mut [u8], from: &[u8])
+    ensures { λ _. ⌜ now (to .exit) ≡ xorInto (now (from .entry)) (now (to .entry)) ⌝ }
+{
+    let n = shorter(to.len(), from.len());
+    for k in 0..n {
+        to[k] = to[k] ^ from[k];
     }
 }
 

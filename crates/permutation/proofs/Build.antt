@@ -1,12 +1,13 @@
 -- A state of 64 bytes by its rule: the laws of such lists, at 64.
 -- Assumes nothing.
-use mathlib.Core.Path.{_≡_}
+use mathlib.Core.Path.{_≡_, refl}
 use mathlib.Core.List.{List}
 use Prim.Native.Nat.{ℕ, _≤_, _<_}
 use lib.ListN.{length, getD}
 use Rattle.laws.specs.Lists.{front}
+use Rattle.laws.specs.Xor.{xorInto}
 use Rattle.laws.proofs.ListLaws.{listed-length, listed-seen, listed-is, listed-same, front-all, front-rest}
-use Rattle.permutation.specs.Permutation.{state}
+use Rattle.permutation.specs.Permutation.{state, added}
 
 pub state-length : (f : ℕ → ℕ) → length (state f) ≡ 64
 unfolding state
@@ -32,3 +33,8 @@ state-all i f s t e h k = front-all 64 i f s t e h k
 pub state-rest : (i : ℕ) (f : ℕ → ℕ) (s t : List ℕ) → t ≡ front i f s → length s ≡ 64 → i ≤ 64 → ((k : ℕ) → i ≤ k → f k ≡ getD s k 0) → t ≡ state f
 unfolding state
 state-rest i f s t e h b same = front-rest 64 i f s t e h b same
+
+-- what `buffer::add` leaves of a state
+pub added-is : (key s : List ℕ) → length s ≡ 64 → xorInto key s ≡ added key s
+unfolding xorInto added state
+added-is key s h = rw h refl

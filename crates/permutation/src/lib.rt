@@ -148,9 +148,7 @@ fn add_key(state: &mut [u8], key: &[u8])
     requires { ⌜ (length (now state) ≡ 64) × (length (now key) ≡ 64) ⌝ }
     ensures { λ _. ⌜ now (state .exit) ≡ added (now (key .entry)) (now (state .entry)) ⌝ }
 {
-    for k in 0..64 {
-        state[k] = state[k] ^ key[k];
-    }
+    buffer::add(state, key);
 }
 
 // One round with a key of the caller's, with 0; or the state stays, with 2, where either length is not 64.

@@ -7,18 +7,14 @@ use Prim.Native.Nat.{ℕ, _≤_, _<_}
 use native.Mathlib.Omega.{arith}
 use lib.ListN.{length, getD, take, List·getD-eq-default}
 use lib.Seq.{length-take-le, getD-take}
-use Rattle.laws.specs.Lists.{listed, splice}
-use Rattle.laws.specs.Xor.{xor}
-use Rattle.laws.proofs.ListLaws.{listed-take}
+use Rattle.laws.specs.Lists.{splice}
+use Rattle.laws.specs.Xor.{xor, xorInto}
+use Rattle.laws.proofs.ListLaws.{listed-same, listed-take}
 use Rattle.laws.proofs.OrderLaws.{lt-or-ge}
 use Rattle.laws.proofs.SpliceLaws.{length-splice, splice-whole, take-splice, splice-before, splice-after}
-use Rattle.laws.proofs.XorLaws.{xor-zero, xor-back}
+use Rattle.laws.proofs.XorLaws.{xor-swap, xor-zero, xor-back}
 use Rattle.permutation.specs.Permutation.{state, added}
 use Rattle.permutation.proofs.Build.{state-length, state-at, state-is}
-
--- the rule of the loops that put a group and the state together
-unfoldable pub both : List ℕ → List ℕ → ℕ → ℕ
-both v g k = xor (getD v k 0) (getD g k 0)
 
 -- what `buffer::copy` leaves of a source that is no shorter
 pub laid : (to from : List ℕ) → length to ≤ length from → splice to 0 (take (length to) from) ≡ take (length to) from
@@ -29,8 +25,7 @@ unfolding added
 added-length g v = state-length _
 
 -- past the group's end the state stands
-pub added-past : (g v : List ℕ) (k : ℕ) → length g ≤ k → both v g k ≡ getD v k 0
-unfolding both
+added-past : (g v : List ℕ) (k : ℕ) → length g ≤ k → xor (getD v k 0) (getD g k 0) ≡ getD v k 0
 added-past g v k h = ap (xor (getD v k 0)) (List·getD-eq-default g 0 {n = k} h) ∙ xor-zero (getD v k 0)
 
 module _ (g v : List ℕ) (small : length g ≤ 64) where
@@ -41,12 +36,13 @@ module _ (g v : List ℕ) (small : length g ≤ 64) where
   unfolding added
   masked-at k h = getD-take (length g) (added g v) k 0 h ∙ state-at _ k (omega arith)
 
-  pub masked-rule : listed 0 (length g) (both v g) ≡ take (length g) (added g v)
-  unfolding added state both
-  masked-rule = listed-take (length g) 64 _ small
+  -- what `buffer::add` leaves of a group
+  pub masked-is : xorInto v g ≡ take (length g) (added g v)
+  unfolding xorInto added state
+  masked-is = listed-same (length g) _ _ (λ k h. xor-swap (getD g k 0) (getD v k 0)) ∙ listed-take (length g) 64 _ small
 
   pub added-masked : length v ≡ 64 → added (take (length g) (added g v)) v ≡ splice v 0 g
-  unfolding added both
+  unfolding added
   added-masked full =
       state-is _ (splice v 0 g) (length-splice v 0 g (omega arith) ∙ full)
       (λ k h. ⊎-elim

@@ -25,9 +25,7 @@ fn add(state: &mut [u8], group: &[u8])
     requires { ⌜ (length (now state) ≡ 64) × (length (now group) ≤ 32) ⌝ }
     ensures { λ _. ⌜ now (state .exit) ≡ added (now (group .entry)) (now (state .entry)) ⌝ }
 {
-    for k in 0..group.len() {
-        state[k] = state[k] ^ group[k];
-    }
+    buffer::add(state, group);
 }
 
 // The state into the group, by xor.
@@ -35,9 +33,7 @@ fn mask(group: &mut [u8], state: &[u8])
     requires { ⌜ (length (now state) ≡ 64) × (length (now group) ≤ 32) ⌝ }
     ensures { λ _. ⌜ now (group .exit) ≡ take (length (now (group .entry))) (added (now (group .entry)) (now (state .entry))) ⌝ }
 {
-    for k in 0..group.len() {
-        group[k] = state[k] ^ group[k];
-    }
+    buffer::add(group, state);
 }
 
 // dec masks the ciphertext; the plaintext, added, then makes it the state's front.
