@@ -1,5 +1,6 @@
 -- What survey's own steps promise where no buffer receives a record: a read by lengths alone, an answer counted, and the walk behind an answer.
 use mathlib.Core.Bool.{true, false}
+use mathlib.Core.List.{[]}
 use Prim.Native.Nat.{ℕ, zero, suc, _+_, _≤_}
 use Rattle.laws.specs.Choose.{pick}
 use Rattle.block.specs.Image.{View}
@@ -10,7 +11,7 @@ use Rattle.reader.specs.declared.Outcome.{Outcome}
 use Rattle.reader.specs.declared.Outcome.the-variants as o
 use Rattle.reader.specs.declared.Got.{Got}
 use Rattle.survey.specs.declared.Tally.{Tally}
-use Rattle.reader.specs.Walk.{Answer, isEnd, walkFrom}
+use Rattle.reader.specs.Walk.{Record, Mark, End, Bad, Stray, Cut, Answer, isEnd, walkFrom}
 use Rattle.survey.specs.Report.{counted, tallied}
 
 abbrev pub got : Outcome → ℕ → Got
@@ -42,14 +43,14 @@ turn o.Stray = 0
 turn (o.Cut q) = 0
 turn (o.Refused n) = 0
 
--- ---- the report: `counted`, by the outcome as the code says it
+-- ---- the report: `counted`, by the outcome as the code says it; what a record holds does not count
 abbrev pub countedBy : Outcome → Tally → Tally
-countedBy (o.Record n) t = record { number = t .number; records = t .records + 1; marks = t .marks; ends = t .ends; bads = t .bads; strays = t .strays; cuts = t .cuts }
-countedBy o.Mark t = record { number = t .number; records = t .records; marks = t .marks + 1; ends = t .ends; bads = t .bads; strays = t .strays; cuts = t .cuts }
-countedBy o.End t = record { number = t .number; records = t .records; marks = t .marks; ends = t .ends + 1; bads = t .bads; strays = t .strays; cuts = t .cuts }
-countedBy o.Bad t = record { number = t .number; records = t .records; marks = t .marks; ends = t .ends; bads = t .bads + 1; strays = t .strays; cuts = t .cuts }
-countedBy o.Stray t = record { number = t .number; records = t .records; marks = t .marks; ends = t .ends; bads = t .bads; strays = t .strays + 1; cuts = t .cuts }
-countedBy (o.Cut q) t = record { number = t .number; records = t .records; marks = t .marks; ends = t .ends; bads = t .bads; strays = t .strays; cuts = t .cuts + 1 }
+countedBy (o.Record n) t = counted (Record []) t
+countedBy o.Mark t = counted Mark t
+countedBy o.End t = counted End t
+countedBy o.Bad t = counted Bad t
+countedBy o.Stray t = counted Stray t
+countedBy (o.Cut q) t = counted (Cut q) t
 countedBy (o.Refused n) t = t
 
 -- no count is above p
