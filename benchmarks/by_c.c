@@ -8,11 +8,11 @@
 #define KEY side_key, sizeof side_key
 #define NONCE side_nonce, sizeof side_nonce
 
-static const struct threading threading = {KEY, 7, 2026};
+static const struct threading threading = {KEY, SIDE_ID, SIDE_RECORDING};
 
 static struct writer open_at(size_t position)
 {
-    struct writer writer = {7, 2026, 128, 8, position, false};
+    struct writer writer = {SIDE_ID, SIDE_RECORDING, SIDE_CAPACITY, SIDE_ZONE, position, false};
 
     return writer;
 }
@@ -40,7 +40,7 @@ unsigned side_open(const uint8_t *sealed, size_t n, uint8_t *message)
 
 size_t side_start(uint8_t *image)
 {
-    return writer_start(image, IMAGE_BYTES, 7, 2026, 8).writer.position;
+    return writer_start(image, IMAGE_BYTES, SIDE_ID, SIDE_RECORDING, SIDE_ZONE).writer.position;
 }
 
 size_t side_record(size_t position, const uint8_t *bytes, size_t n, uint8_t *image)

@@ -2,11 +2,9 @@
 #include "notchbadger.h"
 #include "side.h"
 
-enum { ID = 7, RECORDING = 2026, CAPACITY = 128, ZONE = 8 };
-
 #define KEY side_key, sizeof side_key
 #define NONCE side_nonce, sizeof side_nonce
-#define OPEN_AT(position) ID, RECORDING, CAPACITY, ZONE, position, 0
+#define OPEN_AT(position) SIDE_ID, SIDE_RECORDING, SIDE_CAPACITY, SIDE_ZONE, position, 0
 
 void side_permute(uint8_t state[64])
 {
@@ -30,7 +28,7 @@ unsigned side_open(const uint8_t *sealed, size_t n, uint8_t *message)
 
 size_t side_start(uint8_t *image)
 {
-    return nb_start(ID, RECORDING, ZONE, image, IMAGE_BYTES).position;
+    return nb_start(SIDE_ID, SIDE_RECORDING, SIDE_ZONE, image, IMAGE_BYTES).position;
 }
 
 size_t side_record(size_t position, const uint8_t *bytes, size_t n, uint8_t *image)
@@ -50,7 +48,7 @@ size_t side_close(size_t position, uint8_t *image)
 
 unsigned side_read(const uint8_t *image, size_t p, uint8_t *buffer, size_t *data, size_t *next)
 {
-    nb_got got = nb_read(KEY, ID, RECORDING, image, IMAGE_BYTES, p, buffer, BUFFER_BYTES);
+    nb_got got = nb_read(KEY, SIDE_ID, SIDE_RECORDING, image, IMAGE_BYTES, p, buffer, BUFFER_BYTES);
 
     *data = got.data;
     *next = got.next;
@@ -59,7 +57,7 @@ unsigned side_read(const uint8_t *image, size_t p, uint8_t *buffer, size_t *data
 
 void side_report(const uint8_t *image, size_t counts[6])
 {
-    nb_tally tally = nb_report(KEY, ID, RECORDING, image, IMAGE_BYTES);
+    nb_tally tally = nb_report(KEY, SIDE_ID, SIDE_RECORDING, image, IMAGE_BYTES);
 
     counts[0] = tally.records;
     counts[1] = tally.marks;

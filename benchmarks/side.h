@@ -6,6 +6,8 @@
 #include <stddef.h>
 #include <stdint.h>
 
+enum { SIDE_ID = 7, SIDE_RECORDING = 2026, SIDE_CAPACITY = 128, SIDE_ZONE = 8 };
+
 #define IMAGE_BYTES 65536
 #define BUFFER_BYTES 31232
 
