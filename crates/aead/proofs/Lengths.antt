@@ -1,17 +1,26 @@
 -- What the tests of the numbers 2 and 9 say of lengths, and the lengths of what sealing and opening give.
 -- Assumes nothing.
 use borrow.Author.Tests.{eqb-true, leb-true, eq-eqb, le-leb}
-use mathlib.Core.Path.{_≡_}
+use mathlib.Core.Path.{_≡_, _∙_}
 use mathlib.Core.Bool.{true, _&&_}
 use mathlib.Core.List.{List}
-use Prim.Native.Nat.{ℕ, _+_, _≤_}
+use Prim.Native.Nat.{ℕ, _+_, _-_, _≤_}
 use native.Mathlib.Omega.{arith}
 use lib.Dec.{eqb, leb}
 use lib.ListN.{length, length-append, length-take}
 use Rattle.laws.proofs.ChooseLaws.{both-left, both-right}
-use Rattle.sponge.specs.Blink.{put, enc}
+use lib.Seq.{length-take-le}
+use Rattle.sponge.specs.Blink.{put, enc, dec}
 use Rattle.sponge.proofs.Lengths.{after-length, out-length}
-use Rattle.aead.specs.Sealing.{keyed, sealedFrom, sealed, sized, limited}
+use Rattle.aead.specs.Sealing.{keyed, cipherOf, sealedFrom, sealed, openedFrom, opened, keyOk, sized, limited}
+
+pub key-ok : (key : List ℕ) → length key ≡ 24 → keyOk key ≡ true
+unfolding keyOk
+key-ok key h = eq-eqb (length key) 24 h
+
+pub key-24 : (key : List ℕ) → keyOk key ≡ true → length key ≡ 24
+unfolding keyOk
+key-24 key e = eqb-true (length key) 24 e
 
 pub record Sizes (key nonce : List ℕ) (long short : ℕ) : Type 0 where
   pub key24 : length key ≡ 24
@@ -25,16 +34,16 @@ pub record Limits (associated : List ℕ) (short : ℕ) : Type 0 where
 pub sizes : (key nonce : List ℕ) (long short : ℕ) → sized key nonce long short ≡ true → Sizes key nonce long short
 unfolding sized
 sizes key nonce long short e =
-    let f = both-right (eqb (length key) 24) (eqb (length nonce) 16 && eqb long (short + 16)) e in
+    let f = both-right (keyOk key) (eqb (length nonce) 16 && eqb long (short + 16)) e in
     record {
-      key24 = eqb-true (length key) 24 (both-left (eqb (length key) 24) _ e);
+      key24 = key-24 key (both-left (keyOk key) _ e);
       nonce16 = eqb-true (length nonce) 16 (both-left (eqb (length nonce) 16) (eqb long (short + 16)) f);
       more16 = eqb-true long (short + 16) (both-right (eqb (length nonce) 16) (eqb long (short + 16)) f);
     }
 
 pub sized-holds : (key nonce : List ℕ) (long short : ℕ) → Sizes key nonce long short → sized key nonce long short ≡ true
 unfolding sized
-sized-holds key nonce long short s = rw (eq-eqb (length key) 24 (s .key24), eq-eqb (length nonce) 16 (s .nonce16), eq-eqb long (short + 16) (s .more16))
+sized-holds key nonce long short s = rw (key-ok key (s .key24), eq-eqb (length nonce) 16 (s .nonce16), eq-eqb long (short + 16) (s .more16))
 
 pub limits : (associated : List ℕ) (short : ℕ) → limited associated short ≡ true → Limits associated short
 unfolding limited
@@ -59,3 +68,9 @@ sealedFrom-length v message h = simp (length-append, length-take, after-length, 
 pub sealed-length : (key nonce associated message : List ℕ) → length (sealed key nonce associated message) ≡ length message + 16
 unfolding sealed
 sealed-length key nonce associated message = sealedFrom-length (keyed key nonce associated) message (keyed-length key nonce associated)
+
+pub length-opened : (key nonce associated text : List ℕ) → length (opened key nonce associated text) ≡ length text - 16
+unfolding opened openedFrom cipherOf
+length-opened key nonce associated text =
+    out-length dec tt 0x50 (keyed key nonce associated) (cipherOf text) (keyed-length key nonce associated)
+    ∙ length-take-le (length text - 16) text (omega arith)

@@ -39,9 +39,13 @@ opened key nonce associated text = openedFrom (keyed key nonce associated) text
 unfoldable pub fits : List ℕ → List ℕ → List ℕ → List ℕ → Bool
 fits key nonce associated text = fitsFrom (keyed key nonce associated) text
 
--- ---- numbers. 2: key, nonce or receiving buffer of a wrong length, or a sealed text under 16 bytes, which no buffer fits
+-- ---- numbers. A key has 24 bytes
+unfoldable pub keyOk : List ℕ → Bool
+keyOk key = eqb (length key) 24
+
+-- 2: key, nonce or receiving buffer of a wrong length, or a sealed text under 16 bytes, which no buffer fits
 unfoldable pub sized : List ℕ → List ℕ → ℕ → ℕ → Bool
-sized key nonce long short = eqb (length key) 24 && (eqb (length nonce) 16 && eqb long (short + 16))
+sized key nonce long short = keyOk key && (eqb (length nonce) 16 && eqb long (short + 16))
 
 -- 9: associated data or message above its limit
 unfoldable pub limited : List ℕ → ℕ → Bool

@@ -7,5 +7,6 @@ pub mod SealLaws
 pub mod OpenLaws
 pub mod RoundTrip
 pub mod OpenedLawful
+pub mod ImageSize
 pub mod ImageLaws
 pub mod Unique

@@ -4,7 +4,9 @@ use mathlib.Core.List.{List, [], _∷_}
 use Prim.Native.Nat.{ℕ, suc, _*_, _/_, _%_}
 use lib.Dec.{eqb, leb}
 use lib.ListN.{length, take, drop}
+use Rattle.laws.specs.Choose.{firstOf}
 use Rattle.laws.specs.Lists.{splice}
+use Rattle.aead.specs.Sealing.{keyOk}
 use Rattle.block.specs.Content.{Content}
 use Rattle.block.specs.Format.{sealBlock, openBlock}
 
@@ -18,6 +20,10 @@ sizeOk n = eqb (n % 512) 0 && (leb 2048 n && leb n 65536)
 
 unfoldable pub imageOk : List ℕ → Bool
 imageOk image = sizeOk (length image)
+
+-- what every call on an image under a key asks first: 1 the image, 2 the key; then the rest
+unfoldable pub imageThenKey : List ℕ → List ℕ → ℕ → ℕ
+imageThenKey key image rest = firstOf (imageOk image) 1 (firstOf (keyOk key) 2 rest)
 
 -- the bytes of block p
 unfoldable pub blockAt : List ℕ → ℕ → List ℕ

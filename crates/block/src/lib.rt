@@ -7,8 +7,22 @@ ghost use Rattle.laws.specs.Lists.{splice};
 ghost use Rattle.aead.specs.Sealing.{sealed};
 ghost use Rattle.block.specs.Content.{flag, bytesOf};
 ghost use Rattle.block.specs.Format.{nonceAt, header, payload, number4, number2, allZero, usedOk, contentOf};
-ghost use Rattle.block.specs.Image.{sizeOk};
+ghost use Rattle.block.specs.Image.{sizeOk, imageThenKey};
 ghost use Rattle.block.specs.Calls.{SealedAt, headSays, seenOf, OpenedAt};
+use numbers::BLOCK_BYTES;
+use numbers::BLOCK_PAYLOAD;
+use numbers::DONE;
+use numbers::IMAGE_FEWEST;
+use numbers::IMAGE_MOST;
+use numbers::KEY_BYTES;
+use numbers::UNLAWFUL;
+use numbers::WRONG_IMAGE;
+use numbers::WRONG_LENGTH;
+
+// The smallest and the largest image.
+const SMALLEST: usize = IMAGE_FEWEST * BLOCK_BYTES;
+
+const LARGEST: usize = IMAGE_MOST * BLOCK_BYTES;
 
 // What opens at a place: for a record's blocks byte 5 and the bytes used.
 pub enum Seen {
@@ -23,13 +37,26 @@ pub enum Seen {
 pub fn is_image(size: usize) -> bool
     ensures { λ r. ⌜ r ≡ sizeOk size ⌝ }
 {
-    if size % 512 != 0 {
+    if size % BLOCK_BYTES != 0 {
         return false;
     }
-    if size < 2048 {
+    if size < SMALLEST {
         return false;
     }
-    size <= 65536
+    size <= LARGEST
+}
+
+// What every call on an image under a key asks first: 1 the image, 2 the key.
+pub fn image_then_key(key: &[u8], image: &[u8]) -> u8
+    ensures { λ r. ⌜ r ≡ imageThenKey (now (key .entry)) (now (image .entry)) 0 ⌝ }
+{
+    if !is_image(image.len()) {
+        return WRONG_IMAGE;
+    }
+    if key.len() != KEY_BYTES {
+        return WRONG_LENGTH;
+    }
+    DONE
 }
 
 // ---- Sealing.
@@ -78,11 +105,11 @@ fn header_of(p: u32, kind: u8, last: u8, used: usize) -> [u8; 8]
 }
 
 // The bytes and zeros behind them, 488 in all.
-fn padded(bytes: &[u8]) -> [u8; 488]
+fn padded(bytes: &[u8]) -> [u8; BLOCK_PAYLOAD]
     requires { ⌜ length (now bytes) ≤ 488 ⌝ }
     ensures { λ r. ⌜ r ≡ payload (now (bytes .entry)) ⌝ }
 {
-    let mut message = [0u8; 488];
+    let mut message = [0u8; BLOCK_PAYLOAD];
     buffer::copy(&mut message, bytes);
     message
 }
@@ -93,7 +120,7 @@ fn seal_parts(key: &[u8], nonce: &[u8; 16], head: &[u8; 8], message: &[u8; 488],
     ensures { λ _. ⌜ now (part .exit) ≡ splice (now (part .entry)) 0 (now (head .entry) ++ sealed (now (key .entry)) (now (nonce .entry)) (now (head .entry)) (now (message .entry))) ⌝ }
 {
     buffer::copy(part, head);
-    aead::seal(key, nonce, head, message, &mut part[8..512]);
+    aead::seal(key, nonce, head, message, &mut part[8..BLOCK_BYTES]);
 }
 
 // Seals a block at the front of `part`, and writes no byte beyond its 512. 2: a key, a payload or a part of a wrong length; 8: a kind that
@@ -110,26 +137,26 @@ pub fn seal_block(
 ) -> u8
     ensures { λ r. ⌜ SealedAt (now (key .entry)) id recording p kind last (now (bytes .entry)) (now (part .entry)) r (now (part .exit)) ⌝ }
 {
-    if key.len() != 24 {
-        return 2;
+    if key.len() != KEY_BYTES {
+        return WRONG_LENGTH;
     }
-    if 488 < bytes.len() {
-        return 2;
+    if BLOCK_PAYLOAD < bytes.len() {
+        return WRONG_LENGTH;
     }
-    if part.len() < 512 {
-        return 2;
+    if part.len() < BLOCK_BYTES {
+        return WRONG_LENGTH;
     }
     if kind < 1 {
-        return 8;
+        return UNLAWFUL;
     }
     if 4 < kind {
-        return 8;
+        return UNLAWFUL;
     }
     let nonce = nonce_at(id, recording, p);
     let head = header_of(p, kind, flag_number(last), bytes.len());
     let message = padded(bytes);
     seal_parts(key, &nonce, &head, &message, part);
-    0
+    DONE
 }
 
 // ---- Opening.
@@ -173,7 +200,7 @@ fn is_used(last: u8, used: usize) -> bool
     ensures { λ r. ⌜ r ≡ usedOk last used ⌝ }
 {
     if last == 0 {
-        return used == 488;
+        return used == BLOCK_PAYLOAD;
     }
     if last != 1 {
         return false;
@@ -181,7 +208,7 @@ fn is_used(last: u8, used: usize) -> bool
     if used < 1 {
         return false;
     }
-    used <= 488
+    used <= BLOCK_PAYLOAD
 }
 
 // What a header says of a payload whose unused bytes are zero.
@@ -237,13 +264,13 @@ fn settle(kind: u8, last: u8, used: usize, out: &mut [u8]) -> Seen
 pub fn open_block(key: &[u8], id: u32, recording: u64, p: u32, part: &[u8], out: &mut [u8]) -> Seen
     ensures { λ r. ⌜ OpenedAt (now (key .entry)) id recording p (now (part .entry)) (now (out .entry)) r (now (out .exit)) ⌝ }
 {
-    if key.len() != 24 {
+    if key.len() != KEY_BYTES {
         return Seen::Shut;
     }
-    if part.len() < 512 {
+    if part.len() < BLOCK_BYTES {
         return Seen::Shut;
     }
-    if out.len() != 488 {
+    if out.len() != BLOCK_PAYLOAD {
         return Seen::Shut;
     }
     if number_in(part) != p as usize {
@@ -251,7 +278,7 @@ pub fn open_block(key: &[u8], id: u32, recording: u64, p: u32, part: &[u8], out:
         return Seen::Shut;
     }
     let nonce = nonce_at(id, recording, p);
-    if aead::open(key, &nonce, &part[..8], &part[8..512], out) != 0 {
+    if aead::open(key, &nonce, &part[..8], &part[8..BLOCK_BYTES], out) != DONE {
         return Seen::Shut;
     }
     settle(part[4], part[5], used_in(part), out)

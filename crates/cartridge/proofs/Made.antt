@@ -18,13 +18,14 @@ use Rattle.block.specs.Format.{openBlock}
 use Rattle.block.specs.Image.{capacityOf, imageOk, View, view, lay}
 use Rattle.block.proofs.ImageLaws as image
 use Rattle.block.proofs.ImageLaws.{AllLawful, length-lay, lay-else, lay-stands, block-zeros}
+use Rattle.block.proofs.ImageSize.{image-sized}
 use Rattle.block.proofs.RoundTrip.{zeros-shut}
 use Rattle.writer.specs.declared.WriterState.{WriterState}
 use Rattle.writer.specs.declared.Reply.the-variants.{Plain, Warned}
 use Rattle.writer.specs.Items.{Item, rec, fmark, blocksFor, size, pieces, following, recorded, blocks}
 use Rattle.writer.specs.Writing.{lengthOk, moved, warns, judged, taken, ended, started, none, zoneOk, startNumber, itemNumber, closeNumber, start, write, close}
 use Rattle.writer.proofs.Pieces.{length-blocks}
-use Rattle.writer.proofs.Ready.{item-fits, close-ready, whole, zoned}
+use Rattle.writer.proofs.Ready.{item-fits, close-ready, zoned}
 use Rattle.cartridge.specs.Chain.{Call, item, closing, call, took, chain, accepted, ItemBytes, CallBytes, AllCallBytes}
 use Rattle.cartridge.proofs.Laid.{Sound, AllSound, layout, Stands, Blank, sizes, length-layout}
 
@@ -251,7 +252,7 @@ made-start key n r e img h = go (imageOk img) (zoneOk (capacityOf img) e) refl r
     go false z f g q = absurd (let x : _≡_ {A = ℕ} 0 1 = cc in omega arith)
     go true false f g q = absurd (let x : _≡_ {A = ℕ} 0 1 = cc in omega arith)
     go true true f g q =
-        let w = whole img f in
+        let w = image-sized img f in
         let y = zoned (capacityOf img) e g in
         record {
           named = refl;

@@ -4,40 +4,25 @@ use borrow.Author.Tests.{eq-eqb, eqb-true, leb-true, ltb-true, not-true}
 use mathlib.Core.Path.{_≡_, refl, sym, ap, _∙_}
 use mathlib.Core.Bool.{Bool, true, false, not, _&&_}
 use mathlib.Core.List.{List}
-use Prim.Native.Nat.{ℕ, _+_, _*_, _%_, _≤_, _<_}
+use Prim.Native.Nat.{ℕ, zero, suc, _+_, _*_, _≤_, _<_}
 use native.Mathlib.Omega.{arith}
 use lib.Dec.{eqb, leb, ltb}
 use lib.ListN.{length}
 use Rattle.laws.specs.Choose.{firstOf}
 use Rattle.laws.proofs.ChooseLaws.{both-left, both-right, no-refusal}
-use Rattle.block.specs.Image.{capacityOf, sizeOk, imageOk}
+use Rattle.block.specs.Image.{capacityOf, imageThenKey}
+use Rattle.block.proofs.ImageSize.{Asked, image-sized, asks-refused, asks-rest, asked}
 use Rattle.writer.specs.declared.WriterState.{WriterState}
 use Rattle.writer.specs.Items.{Item, rec, blocksFor, size}
 use Rattle.writer.specs.Writing.{zoneOk, placeOk, lawful, lengthOk, room, callNumber, itemNumber, closeNumber}
 
 -- a call that finds image, key and state as they should be, and the recording open
 pub record Ready (s : WriterState) (key image : List ℕ) : Type 0 where
-  pub image-ok : imageOk image ≡ true
-  pub key24 : length key ≡ 24
+  pub asked : Asked key image
   pub is-lawful : lawful s (capacityOf image) ≡ true
   pub is-open : s .closed ≡ false
 
 -- ---- what its tests say in numbers
-pub record Whole (image : List ℕ) : Type 0 where
-  pub blocks : length image ≡ 512 * capacityOf image
-  pub least : 4 ≤ capacityOf image
-  pub most : capacityOf image ≤ 128
-
-pub whole : (image : List ℕ) → imageOk image ≡ true → Whole image
-unfolding imageOk sizeOk capacityOf
-whole image e =
-    let n = length image in
-    let a : n % 512 ≡ 0 = eqb-true (n % 512) 0 (both-left (eqb (n % 512) 0) (leb 2048 n && leb n 65536) e) in
-    let f = both-right (eqb (n % 512) 0) (leb 2048 n && leb n 65536) e in
-    let b : 2048 ≤ n = leb-true 2048 n (both-left (leb 2048 n) (leb n 65536) f) in
-    let d : n ≤ 65536 = leb-true n 65536 (both-right (leb 2048 n) (leb n 65536) f) in
-    record { blocks = omega arith; least = omega arith; most = omega arith }
-
 pub record Zoned (c e : ℕ) : Type 0 where
   pub low : 1 ≤ e
   pub high : e < c
@@ -84,7 +69,7 @@ pub facts : {s : WriterState} {key image : List ℕ} → Ready s key image → F
 facts {s} {key} {image} r =
     let l = lawfully s (capacityOf image) (r .is-lawful) in
     let c : s .capacity ≡ capacityOf image = l .capacity-is in
-    let w = whole image (r .image-ok) in
+    let w = image-sized image (r .asked .image-ok) in
     let z = zoned (s .capacity) (s .zone) (l .zone-ok) in
     record {
       blocks = w .blocks ∙ ap (λ (k : ℕ). 512 * k) (sym c);
@@ -96,33 +81,33 @@ facts {s} {key} {image} r =
     }
 
 -- ---- the number: a refusal is the same whatever comes after, and with none the rest decides
-abbrev chain : Bool → Bool → Bool → Bool → ℕ → ℕ
-chain a b c d rest = firstOf a 1 (firstOf b 2 (firstOf c 8 (firstOf d 6 rest)))
-
-chain-refused : (a b c d : Bool) (rest : ℕ) → (chain a b c d 0 ≡ 0 → ⊥) → chain a b c d rest ≡ chain a b c d 0
-chain-refused false b c d rest n = refl
-chain-refused true false c d rest n = refl
-chain-refused true true false d rest n = refl
-chain-refused true true true false rest n = refl
-chain-refused true true true true rest n = absurd (n refl)
+state-refused : (a b : Bool) (rest : ℕ) → (firstOf a 8 (firstOf b 6 0) ≡ 0 → ⊥) → firstOf a 8 (firstOf b 6 rest) ≡ firstOf a 8 (firstOf b 6 0)
+state-refused false b rest n = refl
+state-refused true false rest n = refl
+state-refused true true rest n = absurd (n refl)
 
 pub call-refused : (s : WriterState) (key image : List ℕ) (rest : ℕ) → (closeNumber s key image ≡ 0 → ⊥) → callNumber s key image rest ≡ closeNumber s key image
 unfolding callNumber closeNumber
-call-refused s key image rest n =
-    chain-refused (imageOk image) (eqb (length key) 24) (lawful s (capacityOf image)) (not (s .closed)) rest n
+call-refused s key image rest n = go (imageThenKey key image 0) refl
+  where
+    go : (k : ℕ) → imageThenKey key image 0 ≡ k → callNumber s key image rest ≡ closeNumber s key image
+    go (suc k) e = asks-refused key image _ (λ z. omega arith) ∙ sym (asks-refused key image _ (λ z. omega arith))
+    go zero e =
+        let a = asked key image 0 e .0 in
+        asks-rest key image a _ ∙ state-refused (lawful s (capacityOf image)) (not (s .closed)) rest (λ z. n (asks-rest key image a _ ∙ z))
+        ∙ sym (asks-rest key image a _)
 
 pub call-asks : {s : WriterState} {key image : List ℕ} → Ready s key image → (rest : ℕ) → callNumber s key image rest ≡ rest
 unfolding callNumber
-call-asks {s} {key} {image} r rest = rw (r .image-ok, eq-eqb (length key) 24 (r .key24), r .is-lawful, r .is-open)
+call-asks {s} {key} {image} r rest = asks-rest key image (r .asked) _ ∙ rw (r .is-lawful, r .is-open)
 
 pub call-ready : (s : WriterState) (key image : List ℕ) (rest : ℕ) → callNumber s key image rest ≡ 0 → Ready s key image × (rest ≡ 0)
 unfolding callNumber
 call-ready s key image rest e =
-    let a = no-refusal (imageOk image) 0 _ e in
-    let b = no-refusal (eqb (length key) 24) 1 _ (a .1) in
-    let c = no-refusal (lawful s (capacityOf image)) 7 _ (b .1) in
+    let a = asked key image _ e in
+    let c = no-refusal (lawful s (capacityOf image)) 7 _ (a .1) in
     let d = no-refusal (not (s .closed)) 5 rest (c .1) in
-    (record { image-ok = a .0; key24 = eqb-true (length key) 24 (b .0); is-lawful = c .0; is-open = not-true (s .closed) (d .0) }, d .1)
+    (record { asked = a .0; is-lawful = c .0; is-open = not-true (s .closed) (d .0) }, d .1)
 
 pub close-ready : (s : WriterState) (key image : List ℕ) → closeNumber s key image ≡ 0 → Ready s key image
 unfolding closeNumber

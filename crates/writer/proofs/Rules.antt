@@ -11,13 +11,14 @@ use lib.Dec.{eqb, ltb}
 use Rattle.laws.specs.Choose.{pick, firstOf}
 use Rattle.laws.proofs.ChooseLaws.{no-refusal}
 use Rattle.block.specs.Image.{capacityOf, imageOk}
+use Rattle.block.proofs.ImageSize.{image-sized}
 use Rattle.writer.specs.declared.WriterState.{WriterState}
 use Rattle.writer.specs.declared.Reply.the-variants.{Plain, Warned, Refused}
 use Rattle.writer.specs.Items.{Item, rec, fmark, size}
 use Rattle.writer.specs.Writing.{numberOf, zoneOk, placeOk, lawful, lengthOk, room, startNumber, itemNumber, closeNumber}
 use Rattle.writer.specs.Writing.{Done, stay, judged, moved, warns, none, started, taken, ended, start, write, close}
 use Rattle.writer.proofs.Judged.{judged-number}
-use Rattle.writer.proofs.Ready.{Ready, facts, Lawful, lawfully, lawful-holds, whole, call-asks, close-ready, item-asks, item-fits}
+use Rattle.writer.proofs.Ready.{Ready, facts, Lawful, lawfully, lawful-holds, call-asks, close-ready, item-asks, item-fits}
 
 -- ---- the number in the answer is that of the first cause, and 0 says that the call was taken
 warns-0 : (s : WriterState) (i : Item) (p : ℕ) → numberOf (warns s i p) ≡ 0
@@ -190,6 +191,6 @@ unfolding startNumber lawful placeOk
 start-lawful id recording e image q =
     let a = no-refusal (imageOk image) 0 _ (sym (start-number id recording e image) ∙ q) in
     let z = no-refusal (zoneOk (capacityOf image) e) 2 0 (a .1) in
-    let w = whole image (a .0) in
+    let w = image-sized image (a .0) in
     let h : 0 < capacityOf image = omega arith in
     rw (start-when id recording e image 0 q) (rw (eq-eqb (capacityOf image) (capacityOf image) refl, z .0, lt-ltb 0 (capacityOf image) h))

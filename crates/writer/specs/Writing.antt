@@ -7,7 +7,7 @@ use lib.Dec.{eqb, leb, ltb}
 use lib.ListN.{length, replicate}
 use Rattle.laws.specs.Choose.{pick, firstOf}
 use Rattle.block.specs.Content.{head, eod}
-use Rattle.block.specs.Image.{capacityOf, imageOk, lay}
+use Rattle.block.specs.Image.{capacityOf, imageOk, imageThenKey, lay}
 use Rattle.writer.specs.declared.WriterState.{WriterState}
 use Rattle.writer.specs.declared.Reply.{Reply}
 use Rattle.writer.specs.declared.Reply.the-variants.{Plain, Warned, Refused}
@@ -48,9 +48,7 @@ startNumber image e = firstOf (imageOk image) 1 (firstOf (zoneOk (capacityOf ima
 
 -- what every call on a state asks first
 unfoldable pub callNumber : WriterState → List ℕ → List ℕ → ℕ → ℕ
-callNumber s key image rest =
-    firstOf (imageOk image) 1
-    (firstOf (eqb (length key) 24) 2 (firstOf (lawful s (capacityOf image)) 8 (firstOf (not (s .closed)) 6 rest)))
+callNumber s key image rest = imageThenKey key image (firstOf (lawful s (capacityOf image)) 8 (firstOf (not (s .closed)) 6 rest))
 
 unfoldable pub itemNumber : WriterState → List ℕ → List ℕ → Item → ℕ
 itemNumber s key image i = callNumber s key image (firstOf (lengthOk i) 4 (firstOf (room (s .capacity) (s .position) (size i)) 5 0))

@@ -7,6 +7,16 @@ ghost use Rattle.block.specs.Format.{blockOf, sealBlock};
 ghost use Rattle.block.specs.Image.{put, lay};
 ghost use Rattle.writer.specs.Items.{rec, fmark, blocksFor, blocks, pieceAt};
 ghost use Rattle.writer.specs.Writing.{zoneOk, lawful, itemNumber, closeNumber, start, write, close, Did};
+use numbers::BLOCK_BYTES;
+use numbers::BLOCK_PAYLOAD;
+use numbers::CLOSED;
+use numbers::DONE;
+use numbers::NO_ROOM;
+use numbers::RECORD_MAX;
+use numbers::UNLAWFUL;
+use numbers::WRONG_IMAGE;
+use numbers::WRONG_RECORD;
+use numbers::WRONG_ZONE;
 
 pub struct WriterState {
     pub id: u32,
@@ -54,14 +64,14 @@ pub fn start(id: u32, recording: u64, zone: usize, image: &mut [u8]) -> Wrote
     if !block::is_image(image.len()) {
         return Wrote {
             state: none,
-            reply: Reply::Refused(1),
+            reply: Reply::Refused(WRONG_IMAGE),
         };
     }
-    let capacity = image.len() / 512;
+    let capacity = image.len() / BLOCK_BYTES;
     if !is_zone(capacity, zone) {
         return Wrote {
             state: none,
-            reply: Reply::Refused(3),
+            reply: Reply::Refused(WRONG_ZONE),
         };
     }
     buffer::zero(image);
@@ -80,12 +90,14 @@ pub fn start(id: u32, recording: u64, zone: usize, image: &mut [u8]) -> Wrote
 }
 
 // ---- A record's blocks.
+const ROUND_UP: usize = BLOCK_PAYLOAD - 1;
+
 // The blocks that a record of n bytes takes.
 fn blocks_for(n: usize) -> usize
     requires { ⌜ n ≤ 31232 ⌝ }
     ensures { λ r. ⌜ (r ≡ blocksFor n) × (r ≤ 64) ⌝ }
 {
-    (n + 487) / 488
+    (n + ROUND_UP) / BLOCK_PAYLOAD
 }
 
 // Seals block i of the k blocks of a record at p + i: the image is lent on from there.
@@ -102,10 +114,14 @@ fn lay_piece(
     requires { ⌜ (length (now key) ≡ 24) × ((p + i) * 512 + 512 ≤ length (now image)) × (p + i < 128) × (i < k) × (k ≡ blocksFor (length (now bytes))) ⌝ }
     ensures { λ _. ⌜ now (image .exit) ≡ put (now (image .entry)) (p + i) (sealBlock (now (key .entry)) id recording (p + i) (pieceAt (now (bytes .entry)) k i)) ⌝ }
 {
-    let at = (p + i) * 512;
-    let from = i * 488;
+    let at = (p + i) * BLOCK_BYTES;
+    let from = i * BLOCK_PAYLOAD;
     let last = i + 1 == k;
-    let to = if last { bytes.len() } else { from + 488 };
+    let to = if last {
+        bytes.len()
+    } else {
+        from + BLOCK_PAYLOAD
+    };
     let kind = if i == 0 { 1u8 } else { 2u8 };
     block::seal_block(
         key,
@@ -142,7 +158,7 @@ fn lay_empty(key: &[u8], id: u32, recording: u64, p: usize, kind: u8, image: &mu
     requires { ⌜ (length (now key) ≡ 24) × (p * 512 + 512 ≤ length (now image)) × (p < 128) × (1 ≤ kind) × (kind ≤ 4) ⌝ }
     ensures { λ _. ⌜ now (image .exit) ≡ put (now (image .entry)) p (blockOf (now (key .entry)) id recording p kind 0 []) ⌝ }
 {
-    let at = p * 512;
+    let at = p * BLOCK_BYTES;
     block::seal_block(
         key,
         id,
@@ -179,19 +195,17 @@ impl WriterState {
     fn call_number(self, key: &[u8], image: &[u8]) -> u8
         ensures { λ r. ⌜ r ≡ closeNumber self (now (key .entry)) (now (image .entry)) ⌝ }
     {
-        if !block::is_image(image.len()) {
-            return 1;
+        let number = block::image_then_key(key, image);
+        if number != DONE {
+            return number;
         }
-        if key.len() != 24 {
-            return 2;
-        }
-        if !self.is_lawful(image.len() / 512) {
-            return 8;
+        if !self.is_lawful(image.len() / BLOCK_BYTES) {
+            return UNLAWFUL;
         }
         if self.closed {
-            return 6;
+            return CLOSED;
         }
-        0
+        DONE
     }
 
     // The number of a record of n bytes.
@@ -199,19 +213,19 @@ impl WriterState {
         ensures { λ r. ⌜ r ≡ itemNumber self (now (key .entry)) (now (image .entry)) (rec (now (bytes .entry))) ⌝ }
     {
         let number = self.call_number(key, image);
-        if number != 0 {
+        if number != DONE {
             return number;
         }
         if bytes.len() < 1 {
-            return 4;
+            return WRONG_RECORD;
         }
-        if 31232 < bytes.len() {
-            return 4;
+        if RECORD_MAX < bytes.len() {
+            return WRONG_RECORD;
         }
         if self.position + blocks_for(bytes.len()) < self.capacity {
-            0
+            DONE
         } else {
-            5
+            NO_ROOM
         }
     }
 
@@ -220,7 +234,7 @@ impl WriterState {
         ensures { λ r. ⌜ Did (write self (now (key .entry)) (now (image .entry)) (rec (now (bytes .entry)))) r (now (image .exit)) ⌝ }
     {
         let number = self.record_number(key, bytes, image);
-        if number != 0 {
+        if number != DONE {
             return Wrote {
                 state: self,
                 reply: Reply::Refused(number),
@@ -248,7 +262,7 @@ impl WriterState {
         ensures { λ r. ⌜ Did (write self (now (key .entry)) (now (image .entry)) fmark) r (now (image .exit)) ⌝ }
     {
         let number = self.call_number(key, image);
-        if number != 0 {
+        if number != DONE {
             return Wrote {
                 state: self,
                 reply: Reply::Refused(number),
@@ -258,7 +272,7 @@ impl WriterState {
         if self.capacity <= p + 1 {
             return Wrote {
                 state: self,
-                reply: Reply::Refused(5),
+                reply: Reply::Refused(NO_ROOM),
             };
         }
         lay_empty(key, self.id, self.recording, p, 3, image);
@@ -274,7 +288,7 @@ impl WriterState {
         ensures { λ r. ⌜ Did (close self (now (key .entry)) (now (image .entry))) r (now (image .exit)) ⌝ }
     {
         let number = self.call_number(key, image);
-        if number != 0 {
+        if number != DONE {
             return Wrote {
                 state: self,
                 reply: Reply::Refused(number),

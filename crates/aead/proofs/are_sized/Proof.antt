@@ -6,7 +6,7 @@ use mathlib.Core.Path.{_≡_, refl, sym, _∙_}
 use Prim.Native.Nat.{ℕ, _+_, _-_, _≤_}
 use lib.Dec.{eqb}
 use native.Mathlib.Omega.{arith}
-use Rattle.aead.specs.Sealing.{sized}
+use Rattle.aead.specs.Sealing.{keyOk, sized}
 use Rattle.aead.proofs.are_sized.Statement.{statement}
 use Rattle.aead.proofs.are_sized.Tie as tie
 
@@ -19,19 +19,19 @@ sixteen a b h = either (eqb (a - 16) b) refl
     either false e = e ∙ sym (ne-eqb a (b + 16) (λ q. eqb-false (a - 16) b e (omega arith)))
 
 returns : tie.Need-returns
-unfolding sized
+unfolding sized keyOk
 returns c = rw (ne-eqb _ _ (c .if1 .taken))
 
 returns-2 : tie.Need-returns-2
-unfolding sized
+unfolding sized keyOk
 returns-2 c = rw (eq-eqb _ _ (c .before .if1 .left), ne-eqb _ _ (c .if2 .taken))
 
 returns-3 : tie.Need-returns-3
-unfolding sized
+unfolding sized keyOk
 returns-3 c = rw (eq-eqb _ _ (c .before .before .if1 .left), eq-eqb _ _ (c .before .if2 .left), ne-eqb (c .before .before .before .args .long) (c .before .before .before .args .short + 16) (λ e. omega arith))
 
 returns-4 : tie.Need-returns-4
-unfolding sized
+unfolding sized keyOk
 returns-4 c =
     let a = c .before .before .before .args in
     rw (eq-eqb _ _ (c .before .before .if1 .left), eq-eqb _ _ (c .before .if2 .left)) (sixteen (a .long) (a .short) (omega arith))
