@@ -9,10 +9,10 @@ use lib.ListN.{length, take, take-append-drop}
 use lib.Seq.{take-at, drop-at}
 use Rattle.laws.proofs.SameLaws.{same-true, same-refl}
 use Rattle.sponge.specs.Blink.{enc, dec, after, out}
-use Rattle.sponge.proofs.Lengths.{out-length}
+use Rattle.sponge.proofs.Lengths.{length-out}
 use Rattle.sponge.proofs.Trips.{dec-after-enc, dec-out-enc, enc-after-dec, enc-out-dec}
 use Rattle.aead.specs.Sealing.{keyed, sealedFrom, sealed, cipherOf, tagOf, openedFrom, fitsFrom, opened, fits, Sealed, Opened}
-use Rattle.aead.proofs.Lengths.{Sizes, Limits, keyed-length, sealedFrom-length, sealed-length}
+use Rattle.aead.proofs.Lengths.{Sizes, Limits, length-keyed, length-sealedFrom, length-sealed}
 use Rattle.aead.proofs.Calls.{seal-accepted, open-accepted, open-takes}
 
 -- t opens exactly if it is the sealing of some p, and it opens to that p
@@ -26,7 +26,7 @@ unfolding cipherOf tagOf
 parts-join t = take-append-drop (length t - 16) t
 
 sealed-seam : (v p : List ℕ) → length v ≡ 64 → length p ≡ length (sealedFrom v p) - 16
-sealed-seam v p h = omega (arith, sealedFrom-length v p h)
+sealed-seam v p h = omega (arith, length-sealedFrom v p h)
 
 -- ---- from a state v: what fits is the sealing of what it opens to
 from-only : (v t : List ℕ) → length v ≡ 64 → fitsFrom v t ≡ true → t ≡ sealedFrom v (openedFrom v t)
@@ -37,11 +37,11 @@ from-only v t h e =
 -- the two parts of what is sealed, and the way back
 sealed-cipher : (v p : List ℕ) → length v ≡ 64 → cipherOf (sealedFrom v p) ≡ out enc 0x50 v p
 unfolding cipherOf sealedFrom
-sealed-cipher v p h = take-at (out enc 0x50 v p) _ _ (out-length enc tt 0x50 v p h ∙ sealed-seam v p h)
+sealed-cipher v p h = take-at (out enc 0x50 v p) _ _ (length-out enc tt 0x50 v p h ∙ sealed-seam v p h)
 
 sealed-tag : (v p : List ℕ) → length v ≡ 64 → tagOf (sealedFrom v p) ≡ take 16 (after enc 0x50 v p)
 unfolding tagOf sealedFrom
-sealed-tag v p h = drop-at (out enc 0x50 v p) _ _ (out-length enc tt 0x50 v p h ∙ sealed-seam v p h)
+sealed-tag v p h = drop-at (out enc 0x50 v p) _ _ (length-out enc tt 0x50 v p h ∙ sealed-seam v p h)
 
 from-fits : (v p : List ℕ) → length v ≡ 64 → fitsFrom v (sealedFrom v p) ≡ true
 unfolding fitsFrom
@@ -54,12 +54,12 @@ from-back v p h = rw (sealed-cipher v p h) (dec-out-enc 0x50 v h p)
 -- ---- opening what was sealed gives the message back, whatever the lists, the empty message too
 pub open-seal : (k n a p : List ℕ) → (fits k n a (sealed k n a p) ≡ true) × (opened k n a (sealed k n a p) ≡ p)
 unfolding fits opened sealed
-open-seal k n a p = (from-fits (keyed k n a) p (keyed-length k n a), from-back (keyed k n a) p (keyed-length k n a))
+open-seal k n a p = (from-fits (keyed k n a) p (length-keyed k n a), from-back (keyed k n a) p (length-keyed k n a))
 
 -- ---- what opens is the sealing of what it opens to
 pub opens-only-sealed : (k n a t : List ℕ) → fits k n a t ≡ true → t ≡ sealed k n a (opened k n a t)
 unfolding fits opened sealed
-opens-only-sealed k n a t e = from-only (keyed k n a) t (keyed-length k n a) e
+opens-only-sealed k n a t e = from-only (keyed k n a) t (length-keyed k n a) e
 
 -- so t opens exactly if it is the sealing of some p, and then it opens to that p
 pub opens-exactly : (k n a t : List ℕ) → OpensExactly k n a t
@@ -93,6 +93,6 @@ sealed-opened {k} {n} {a} {t} {q} {q′} {r} p s l e c =
 pub seal-then-open : {k n a p o o′ q q′ : List ℕ} {r : ℕ} → Sealed k n a p o 0 o′ → length q ≡ length p → Opened k n a o′ q r q′ → (r ≡ 0) × (q′ ≡ p)
 seal-then-open {k} {n} {a} {p} {o} {o′} {q} c h d =
     let w = seal-accepted c in
-    let e : length o′ ≡ length q + 16 = ap length (w .bytes) ∙ sealed-length k n a p ∙ omega arith in
+    let e : length o′ ≡ length q + 16 = ap length (w .bytes) ∙ length-sealed k n a p ∙ omega arith in
     sealed-opened p (record { key24 = w .sizes .key24; nonce16 = w .sizes .nonce16; more16 = e })
     (record { associated-most = w .limits .associated-most; short-most = omega (arith, w .limits .short-most) }) (w .bytes) d

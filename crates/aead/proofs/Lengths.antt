@@ -11,7 +11,7 @@ use lib.ListN.{length, length-append, length-take}
 use Rattle.laws.proofs.ChooseLaws.{both-left, both-right}
 use lib.Seq.{length-take-le}
 use Rattle.sponge.specs.Blink.{put, enc, dec}
-use Rattle.sponge.proofs.Lengths.{after-length, out-length}
+use Rattle.sponge.proofs.Lengths.{length-after, length-out}
 use Rattle.aead.specs.Sealing.{keyed, cipherOf, sealedFrom, sealed, openedFrom, opened, keyOk, sized, limited}
 
 pub key-ok : (key : List ℕ) → length key ≡ 24 → keyOk key ≡ true
@@ -57,20 +57,20 @@ pub limited-holds : (associated : List ℕ) (short : ℕ) → Limits associated 
 unfolding limited
 limited-holds associated short l = rw (le-leb (length associated) 65536 (l .associated-most), le-leb short 65520 (l .short-most))
 
-pub keyed-length : (key nonce associated : List ℕ) → length (keyed key nonce associated) ≡ 64
+pub length-keyed : (key nonce associated : List ℕ) → length (keyed key nonce associated) ≡ 64
 unfolding keyed
-keyed-length key nonce associated = after-length put 0x40 _ associated
+length-keyed key nonce associated = length-after put 0x40 _ associated
 
-pub sealedFrom-length : (v message : List ℕ) → length v ≡ 64 → length (sealedFrom v message) ≡ length message + 16
+pub length-sealedFrom : (v message : List ℕ) → length v ≡ 64 → length (sealedFrom v message) ≡ length message + 16
 unfolding sealedFrom
-sealedFrom-length v message h = simp (length-append, length-take, after-length, out-length enc tt) (omega arith)
+length-sealedFrom v message h = simp (length-append, length-take, length-after, length-out enc tt) (omega arith)
 
-pub sealed-length : (key nonce associated message : List ℕ) → length (sealed key nonce associated message) ≡ length message + 16
+pub length-sealed : (key nonce associated message : List ℕ) → length (sealed key nonce associated message) ≡ length message + 16
 unfolding sealed
-sealed-length key nonce associated message = sealedFrom-length (keyed key nonce associated) message (keyed-length key nonce associated)
+length-sealed key nonce associated message = length-sealedFrom (keyed key nonce associated) message (length-keyed key nonce associated)
 
 pub length-opened : (key nonce associated text : List ℕ) → length (opened key nonce associated text) ≡ length text - 16
 unfolding opened openedFrom cipherOf
 length-opened key nonce associated text =
-    out-length dec tt 0x50 (keyed key nonce associated) (cipherOf text) (keyed-length key nonce associated)
+    length-out dec tt 0x50 (keyed key nonce associated) (cipherOf text) (length-keyed key nonce associated)
     ∙ length-take-le (length text - 16) text (omega arith)

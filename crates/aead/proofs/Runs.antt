@@ -11,7 +11,7 @@ use Rattle.laws.specs.Lists.{splice, same}
 use Rattle.laws.proofs.SpliceLaws.{splice-two}
 use Rattle.sponge.specs.Blink.{enc, dec, after, out, Ran}
 use Rattle.sponge.proofs.CallLaws.{ran-state, ran-bytes}
-use Rattle.sponge.proofs.Lengths.{after-length, out-length}
+use Rattle.sponge.proofs.Lengths.{length-after, length-out}
 use Rattle.aead.specs.Sealing.{sealedFrom, cipherOf, tagOf, openedFrom, fitsFrom}
 
 -- enc into the front of o, then the state's first 16 bytes copied over the rest
@@ -27,9 +27,9 @@ module _ {r : ℕ} {v v′ e : List ℕ} (m o : List ℕ) (h : length v ≡ 64) 
       → b ≡ splice part 0 (take (length part) (take 16 v′)) → take (length m) w ++ (b ++ drop (length w - length m) (drop (length m) w)) ≡ sealedFrom v m
   unfolding sealedFrom
   enc-sealed f g q =
-      let n : length v′ ≡ 64 = ap length enc-left ∙ after-length enc 0x50 v m in
+      let n : length v′ ≡ 64 = ap length enc-left ∙ length-after enc 0x50 v m in
       let t : length (take 16 v′) ≡ 16 = length-take-le 16 v′ (omega arith) in
-      splice-two o e (take 16 v′) (length m) (ap length enc-gave ∙ out-length enc tt 0x50 v m h) (omega arith) f g q
+      splice-two o e (take 16 v′) (length m) (ap length enc-gave ∙ length-out enc tt 0x50 v m h) (omega arith) f g q
       ∙ ap₂ (λ (x y : List ℕ). x ++ take 16 y) enc-gave enc-left
 
 -- dec of all but the last 16 bytes of t, then the state's first 16 compared with those

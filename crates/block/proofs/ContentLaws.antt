@@ -15,7 +15,8 @@ use Rattle.block.specs.declared.Seen.{Seen}
 use Rattle.block.specs.declared.Seen.the-variants as seen
 use Rattle.block.specs.Content.{Content, shut, more, head, first, mark, eod, bytesOf}
 use Rattle.block.specs.Format.{payload, usedOk, allZero, contentOf}
-use Rattle.block.specs.Calls.{seenOf, headSays}
+use Rattle.block.specs.Calls.{seenOf}
+use Rattle.block.specs.Steps.{headSays}
 use Rattle.block.proofs.PayloadLaws.{payload-nil, payload-back}
 
 -- the content o is what the code says as s of a payload m
@@ -58,6 +59,30 @@ used-most last used = go (eqb last 0) (eqb last 1)
     go : (t u : Bool) → pick t (eqb used 488) (u && (leb 1 used && leb used 488)) ≡ true → used ≤ 488
     go true u e = omega (arith, eqb-true used 488 e)
     go false u e = leb-true used 488 (both-right (leb 1 used) (leb used 488) (both-right u (leb 1 used && leb used 488) e))
+
+-- what holds of `shut`, of a record's blocks where the count may be used, and of the two without bytes, holds of what opens
+pub content-cases : (P : Content → Type 0) (kind last used : ℕ) (m : List ℕ) → P shut
+    → (usedOk last used ≡ true → P (head (first (eqb last 1) (take used m))) × P (more (eqb last 1) (take used m)))
+    → P (head mark) × P (head eod) → P (contentOf kind last used m)
+unfolding contentOf
+content-cases P kind last used m s =
+    go (allZero (drop used m)) (eqb kind 1) (usedOk last used) (eqb kind 2) (eqb last 0 && eqb used 0) (eqb kind 3) (eqb kind 4)
+  where
+    go : (t k₁ u k₂ d k₃ k₄ : Bool) → (u ≡ true → P (head (first (eqb last 1) (take used m))) × P (more (eqb last 1) (take used m)))
+        → P (head mark) × P (head eod)
+        → P
+        (pick t
+        (pick k₁ (pick u (head (first (eqb last 1) (take used m))) shut)
+        (pick k₂ (pick u (more (eqb last 1) (take used m)) shut) (pick d (pick k₃ (head mark) (pick k₄ (head eod) shut)) shut))) shut)
+    go false k₁ u k₂ d k₃ k₄ a b = s
+    go true true true k₂ d k₃ k₄ a b = a refl .0
+    go true true false k₂ d k₃ k₄ a b = s
+    go true false true true d k₃ k₄ a b = a refl .1
+    go true false false true d k₃ k₄ a b = s
+    go true false u false true true k₄ a b = b .0
+    go true false u false true false true a b = b .1
+    go true false u false true false false a b = s
+    go true false u false false k₃ k₄ a b = s
 
 -- where the unused bytes are zero, the header decides; else nothing opens
 pub header-decides : (kind last used : ℕ) (m : List ℕ) → length m ≡ 488 → allZero (drop used m) ≡ true → Judged (contentOf kind last used m) (headSays kind last used) m

@@ -22,15 +22,15 @@ four-hold p h =
 pub two-hold : (n : ℕ) → n < 65536 → n / 256 % 256 * 256 + n % 256 ≡ n
 two-hold n h = omega arith
 
-pub nonce-length : (id recording p : ℕ) → length (nonceAt id recording p) ≡ 16
+pub length-nonce : (id recording p : ℕ) → length (nonceAt id recording p) ≡ 16
 unfolding nonceAt
-nonce-length id recording p = refl
+length-nonce id recording p = refl
 
 -- ---- the fields of a header, whatever stands behind it
 module _ (p kind last used : ℕ) (t : List ℕ) where
-  pub header-length : length (header p kind last used) ≡ 8
+  pub length-header : length (header p kind last used) ≡ 8
   unfolding header
-  header-length = refl
+  length-header = refl
 
   pub header-number : p < 4294967296 → number4 (header p kind last used ++ t) 0 ≡ p
   unfolding header

@@ -12,14 +12,14 @@ use lib.Seq.{take-take, getD-take, length-take-le}
 use Rattle.laws.specs.Choose.{pick}
 use Rattle.laws.proofs.ListLaws.{drop-take}
 use Rattle.aead.specs.Sealing.{fits, opened, openNumber, openLeaves, Opened}
-use Rattle.aead.proofs.Lengths.{Sizes, Limits, sized-holds, limited-holds}
+use Rattle.aead.proofs.Lengths.{key-ok, Sizes, Limits, sized-holds, limited-holds}
 use Rattle.aead.proofs.Calls.{open-takes}
 use Rattle.block.specs.declared.Seen.{Seen}
 use Rattle.block.specs.declared.Seen.the-variants as seen
 use Rattle.block.specs.Content.{Content, shut, bytesOf}
 use Rattle.block.specs.Format.{nonceAt, number4, number2, payload, contentOf, openBlock}
 use Rattle.block.specs.Calls.{seenOf, openable, OpenedAt}
-use Rattle.block.proofs.NumberLaws.{nonce-length}
+use Rattle.block.proofs.NumberLaws.{length-nonce}
 use Rattle.block.proofs.ContentLaws.{zeros-left}
 
 -- where sizes and limits are kept, and the tag does not fit
@@ -61,7 +61,7 @@ module _ (key : List ℕ) (id recording p : ℕ) (part : List ℕ) where
     text-length = length-take-le 504 (drop 8 part) (omega (arith, length-drop 8 part))
 
     sizes : Sizes key n (length (take 504 (drop 8 part))) (length out)
-    sizes = record { key24 = hk; nonce16 = ap length hn ∙ nonce-length id recording p; more16 = omega (arith, text-length) }
+    sizes = record { key24 = hk; nonce16 = ap length hn ∙ length-nonce id recording p; more16 = omega (arith, text-length) }
 
     limits : Limits (take 8 part) (length out)
     limits = record { associated-most = omega (arith, length-take-le 8 part (omega arith)); short-most = omega arith }
@@ -96,9 +96,9 @@ module _ {key : List ℕ} {id recording p : ℕ} {part out : List ℕ} where
   open-stays e = record { says = rw e; bytes = rw e }
 
 module _ (key part out : List ℕ) (hk : length key ≡ 24) (hp : 512 ≤ length part) (ho : length out ≡ 488) where
-  may-open : openable key part out ≡ true
+  pub may-open : openable key part out ≡ true
   unfolding openable
-  may-open = rw (eq-eqb (length key) 24 hk, le-leb 512 (length part) hp, eq-eqb (length out) 488 ho)
+  may-open = rw (key-ok key hk, le-leb 512 (length part) hp, eq-eqb (length out) 488 ho)
 
   pub open-answers : {id recording p : ℕ} (o : Content) {r : Seen} {out′ : List ℕ} → openBlock key id recording p (take 512 part) ≡ o → r ≡ seenOf o → out′ ≡ payload (bytesOf o)
       → OpenedAt key id recording p part out r out′

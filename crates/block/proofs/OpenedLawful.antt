@@ -12,56 +12,50 @@ use lib.Dec.{eqb, leb, lit<}
 use lib.ListN.{length, getD, take, drop, replicate, length-drop, length-replicate}
 use lib.Seq.{length-take-le}
 use Rattle.laws.specs.Choose.{pick}
-use Rattle.laws.proofs.ByteLaws.{Bytes, bytes-zeros, bytes-take, bytes-drop, bytes-append}
+use Rattle.laws.specs.Lists.{AllBytes}
+use Rattle.laws.proofs.ByteLaws.{bytes-zeros, bytes-take, bytes-drop, bytes-append}
 use Rattle.laws.proofs.ChooseLaws.{both-left, both-right}
-use Rattle.permutation.proofs.StateLaws.{Whole}
+use Rattle.permutation.proofs.StateLaws.{Full}
 use Rattle.sponge.specs.Blink.{put, dec}
-use Rattle.sponge.proofs.Bytes.{after-whole, out-bytes}
-use Rattle.sponge.proofs.Lengths.{out-length}
+use Rattle.sponge.proofs.Bytes.{after-full, out-bytes}
 use Rattle.aead.specs.Sealing.{keyed, cipherOf, openedFrom, opened, fits}
-use Rattle.block.specs.Content.{shut, more, head, first, mark, eod, Shut, AllBytes, Used, Lawful}
-use Rattle.block.specs.Format.{be4, be8, nonceAt, number4, number2, allZero, usedOk, contentOf, openBlock}
+use Rattle.aead.proofs.Lengths.{length-opened}
+use Rattle.block.specs.Content.{shut, Shut, Used, Lawful}
+use Rattle.block.specs.Format.{be4, be8, nonceAt, number4, number2, usedOk, contentOf, openBlock}
+use Rattle.block.proofs.ContentLaws.{content-cases}
 
 -- ---- bytes
-all-bytes : (s : List ℕ) → Bytes s → AllBytes s
-all-bytes [] h = tt
-all-bytes (x ∷ s) h = (h 0, all-bytes s (λ k. h (suc k)))
-
-be4-bytes : (x : ℕ) → Bytes (be4 x)
+be4-bytes : (x : ℕ) → AllBytes (be4 x)
 be4-bytes x zero = mod-lt (x / 16777216) (lit< tt)
 be4-bytes x (suc zero) = mod-lt (x / 65536) (lit< tt)
 be4-bytes x (suc (suc zero)) = mod-lt (x / 256) (lit< tt)
 be4-bytes x (suc (suc (suc zero))) = mod-lt x (lit< tt)
 be4-bytes x (suc (suc (suc (suc k)))) = lit< tt
 
-nonce-bytes : (id recording p : ℕ) → Bytes (nonceAt id recording p)
+nonce-bytes : (id recording p : ℕ) → AllBytes (nonceAt id recording p)
 unfolding nonceAt
 nonce-bytes id recording p =
     bytes-append (be4 id) (be8 recording ++ be4 p) (be4-bytes id)
     (bytes-append (be8 recording) (be4 p)
     (bytes-append (be4 (recording / 4294967296)) (be4 recording) (be4-bytes (recording / 4294967296)) (be4-bytes recording)) (be4-bytes p))
 
-module _ (key n a : List ℕ) (hk : Bytes key) (hn : Bytes n) (ha : Bytes a) where
-  keyed-whole : Whole (keyed key n a)
+module _ (key n a : List ℕ) (hk : AllBytes key) (hn : AllBytes n) (ha : AllBytes a) where
+  keyed-full : Full (keyed key n a)
   unfolding keyed
-  keyed-whole =
-      after-whole put 0x40 _ a (lit< tt) (after-whole put 0x20 _ n (lit< tt) (after-whole put 0x10 (replicate 64 0) key (lit< tt) zero-whole hk) hn) ha
+  keyed-full =
+      after-full put 0x40 _ a (lit< tt) (after-full put 0x20 _ n (lit< tt) (after-full put 0x10 (replicate 64 0) key (lit< tt) zero-full hk) hn) ha
     where
-      zero-whole : Whole (replicate 64 0)
-      zero-whole = record { full = length-replicate {A = ℕ} 64 0; bytes = bytes-zeros 64 }
+      zero-full : Full (replicate 64 0)
+      zero-full = record { long = length-replicate {A = ℕ} 64 0; bytes = bytes-zeros 64 }
 
-  opened-bytes : (t : List ℕ) → Bytes t → Bytes (opened key n a t)
+  opened-bytes : (t : List ℕ) → AllBytes t → AllBytes (opened key n a t)
   unfolding opened openedFrom cipherOf
-  opened-bytes t h = out-bytes dec 0x50 (keyed key n a) (cipherOf t) (lit< tt) keyed-whole (bytes-take (length t - 16) t h)
-
-  opened-length : (t : List ℕ) → length (opened key n a t) ≡ length t - 16
-  unfolding opened openedFrom cipherOf
-  opened-length t = out-length dec tt 0x50 (keyed key n a) (cipherOf t) (keyed-whole .full) ∙ length-take-le (length t - 16) t (omega arith)
+  opened-bytes t h = out-bytes dec 0x50 (keyed key n a) (cipherOf t) (lit< tt) keyed-full (bytes-take (length t - 16) t h)
 
 -- ---- contents
-module _ (last used : ℕ) (m : List ℕ) (h : length m ≡ 488) (g : Bytes m) where
+module _ (last used : ℕ) (m : List ℕ) (h : length m ≡ 488) (g : AllBytes m) where
   front-bytes : AllBytes (take used m)
-  front-bytes = all-bytes (take used m) (bytes-take used m g)
+  front-bytes = bytes-take used m g
 
   used-lawful : usedOk last used ≡ true → Used (eqb last 1) (take used m)
   unfolding usedOk
@@ -78,25 +72,11 @@ module _ (last used : ℕ) (m : List ℕ) (h : length m ≡ 488) (g : Bytes m) w
       go false a false b e = let z : _≡_ {A = ℕ} 0 1 = cc in absurd (omega arith)
 
   content-lawful : (kind p : ℕ) → Shut (contentOf kind last used m) ⊎ Lawful p (contentOf kind last used m)
-  unfolding contentOf
   content-lawful kind p =
-      go (allZero (drop used m)) (eqb kind 1) (usedOk last used) (eqb kind 2) (eqb last 0 && eqb used 0) (eqb kind 3) (eqb kind 4) used-lawful
-    where
-      go : (t k₁ u k₂ d k₃ k₄ : Bool) → (u ≡ true → Used (eqb last 1) (take used m))
-          → Shut (pick t (pick k₁ (pick u (head (first (eqb last 1) (take used m))) shut) (pick k₂ (pick u (more (eqb last 1) (take used m)) shut) (pick d (pick k₃ (head mark) (pick k₄ (head eod) shut)) shut))) shut)
-          ⊎ Lawful p (pick t (pick k₁ (pick u (head (first (eqb last 1) (take used m))) shut) (pick k₂ (pick u (more (eqb last 1) (take used m)) shut) (pick d (pick k₃ (head mark) (pick k₄ (head eod) shut)) shut))) shut)
-      go false k₁ u k₂ d k₃ k₄ a = inl tt
-      go true true true k₂ d k₃ k₄ a = inr (a refl)
-      go true true false k₂ d k₃ k₄ a = inl tt
-      go true false true true d k₃ k₄ a = inr (a refl)
-      go true false false true d k₃ k₄ a = inl tt
-      go true false u false true true k₄ a = inr tt
-      go true false u false true false true a = inr tt
-      go true false u false true false false a = inl tt
-      go true false u false false k₃ k₄ a = inl tt
+      content-cases (λ o. Shut o ⊎ Lawful p o) kind last used m (inl tt) (λ e. (inr (used-lawful e), inr (used-lawful e))) (inr tt, inr tt)
 
 -- ---- what opens is lawful
-pub opens-lawful : (key : List ℕ) (id recording p : ℕ) (b : List ℕ) → Bytes key → Bytes b → length b ≡ 512
+pub opens-lawful : (key : List ℕ) (id recording p : ℕ) (b : List ℕ) → AllBytes key → AllBytes b → length b ≡ 512
     → Shut (openBlock key id recording p b) ⊎ Lawful p (openBlock key id recording p b)
 unfolding openBlock
 opens-lawful key id recording p b hk hb h = go (eqb (number4 b 0) p && fits key n (take 8 b) (drop 8 b))
@@ -108,9 +88,9 @@ opens-lawful key id recording p b hk hb h = go (eqb (number4 b 0) p && fits key 
     m = opened key n (take 8 b) (drop 8 b)
 
     size : length m ≡ 488
-    size = opened-length key n (take 8 b) hk (nonce-bytes id recording p) (bytes-take 8 b hb) (drop 8 b) ∙ omega (arith, length-drop 8 b)
+    size = length-opened key n (take 8 b) (drop 8 b) ∙ omega (arith, length-drop 8 b)
 
-    fine : Bytes m
+    fine : AllBytes m
     fine = opened-bytes key n (take 8 b) hk (nonce-bytes id recording p) (bytes-take 8 b hb) (drop 8 b) (bytes-drop 8 b hb)
 
     go : (t : Bool) → Shut (pick t (contentOf (getD b 4 0) (getD b 5 0) (number2 b 6) m) shut) ⊎ Lawful p (pick t (contentOf (getD b 4 0) (getD b 5 0) (number2 b 6) m) shut)

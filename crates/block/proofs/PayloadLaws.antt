@@ -40,9 +40,9 @@ padded-back n m k h l e =
     ∙ take-append-drop k m
 
 -- ---- of 488
-pub payload-length : (b : List ℕ) → length (payload b) ≡ 488
+pub length-payload : (b : List ℕ) → length (payload b) ≡ 488
 unfolding payload
-payload-length b = length-take-le 488 (b ++ replicate 488 0) (omega (arith, length-append b (replicate 488 0), length-replicate {A = ℕ} 488 0))
+length-payload b = length-take-le 488 (b ++ replicate 488 0) (omega (arith, length-append b (replicate 488 0), length-replicate {A = ℕ} 488 0))
 
 pub payload-is : (b : List ℕ) → length b ≤ 488 → payload b ≡ b ++ replicate (488 - length b) 0
 unfolding payload

@@ -14,7 +14,7 @@ use Rattle.aead.specs.Sealing.{sealed, opened, fits}
 use Rattle.aead.proofs.Demand2.{open-seal}
 use Rattle.block.specs.Content.{Content, shut, more, head, first, mark, eod, Shut, Used, Lawful, flag, kindOf, lastOf, bytesOf}
 use Rattle.block.specs.Format.{nonceAt, header, payload, number4, number2, allZero, usedOk, contentOf, blockOf, sealBlock, openBlock}
-use Rattle.block.proofs.NumberLaws.{header-length, header-number, header-kind, header-last, header-used}
+use Rattle.block.proofs.NumberLaws.{length-header, header-number, header-kind, header-last, header-used}
 use Rattle.block.proofs.PayloadLaws.{payload-is, payload-rest}
 
 -- ---- lawful contents
@@ -59,8 +59,8 @@ open-block-of key id recording p kind last b hp hb =
     let h = header p kind last (length b) in
     let t = sealed key n h (payload b) in
     rw (
-      take-at h t 8 (header-length p kind last (length b) t),
-      drop-at h t 8 (header-length p kind last (length b) t),
+      take-at h t 8 (length-header p kind last (length b) t),
+      drop-at h t 8 (length-header p kind last (length b) t),
       header-number p kind last (length b) t hp,
       header-kind p kind last (length b) t,
       header-last p kind last (length b) t,

@@ -11,32 +11,32 @@ use lib.Seq.{take-all, length-take-le}
 use Rattle.laws.specs.Lists.{splice}
 use Rattle.laws.proofs.SpliceLaws.{splice-mid, splice-next, length-splice}
 use Rattle.aead.specs.Sealing.{sealed, Sealed}
-use Rattle.aead.proofs.Lengths.{sealed-length}
+use Rattle.aead.proofs.Lengths.{length-sealed}
 use Rattle.aead.proofs.Calls.{seal-takes}
 use Rattle.block.specs.Content.{Content, flag, kindOf, lastOf, bytesOf}
 use Rattle.block.specs.Format.{nonceAt, header, payload, blockOf, sealBlock}
-use Rattle.block.specs.Calls.{sealNumber, SealedAt}
-use Rattle.block.proofs.NumberLaws.{header-length}
-use Rattle.block.proofs.PayloadLaws.{payload-length}
+use Rattle.block.specs.Calls.{sealBlockNumber, SealedAt}
+use Rattle.block.proofs.NumberLaws.{length-header}
+use Rattle.block.proofs.PayloadLaws.{length-payload}
 
 -- ---- a block has 512 bytes
-pub block-length : (key : List ℕ) (id recording p kind last : ℕ) (b : List ℕ) → length (blockOf key id recording p kind last b) ≡ 512
+pub length-blockOf : (key : List ℕ) (id recording p kind last : ℕ) (b : List ℕ) → length (blockOf key id recording p kind last b) ≡ 512
 unfolding blockOf
-block-length key id recording p kind last b =
+length-blockOf key id recording p kind last b =
     let h = header p kind last (length b) in
     let s = sealed key (nonceAt id recording p) h (payload b) in
-    omega (arith, length-append h s, header-length p kind last (length b) s, sealed-length key (nonceAt id recording p) h (payload b), payload-length b)
+    omega (arith, length-append h s, length-header p kind last (length b) s, length-sealed key (nonceAt id recording p) h (payload b), length-payload b)
 
-pub seal-length : (key : List ℕ) (id recording p : ℕ) (o : Content) → length (sealBlock key id recording p o) ≡ 512
+pub length-sealBlock : (key : List ℕ) (id recording p : ℕ) (o : Content) → length (sealBlock key id recording p o) ≡ 512
 unfolding sealBlock
-seal-length key id recording p o = block-length key id recording p (kindOf o) (lastOf o) (bytesOf o)
+length-sealBlock key id recording p o = length-blockOf key id recording p (kindOf o) (lastOf o) (bytesOf o)
 
 -- ---- the call's answers
 module _ {key : List ℕ} {id recording p kind : ℕ} {last : Bool} {b part : List ℕ} where
-  pub seal-refuses : {r : ℕ} → sealNumber key kind b part ≡ r → eqb r 0 ≡ false → SealedAt key id recording p kind last b part r part
+  pub seal-refuses : {r : ℕ} → sealBlockNumber key kind b part ≡ r → eqb r 0 ≡ false → SealedAt key id recording p kind last b part r part
   seal-refuses e f = record { code = sym e; bytes = rw (e, f) }
 
-  pub seal-writes : {part′ : List ℕ} → sealNumber key kind b part ≡ 0 → part′ ≡ splice part 0 (blockOf key id recording p kind (flag last) b)
+  pub seal-writes : {part′ : List ℕ} → sealBlockNumber key kind b part ≡ 0 → part′ ≡ splice part 0 (blockOf key id recording p kind (flag last) b)
       → SealedAt key id recording p kind last b part 0 part′
   seal-writes e f = record { code = sym e; bytes = f ∙ rw e }
 
@@ -55,7 +55,7 @@ parts-laid key n h m part part₁ {q} hk hn hh hm hp e c =
     let l : length part₁ ≡ length part = ap length f ∙ length-splice part 0 h (omega arith) in
     let o : length (take 504 (drop 8 part₁)) ≡ 504 = length-take-le 504 (drop 8 part₁) (omega (arith, length-drop 8 part₁)) in
     let s = seal-takes (record { key24 = hk; nonce16 = hn; more16 = omega arith }) (record { associated-most = omega arith; short-most = omega arith }) c .1 in
-    let w : length q ≡ 504 = ap length s ∙ sealed-length key n h m ∙ omega arith in
+    let w : length q ≡ 504 = ap length s ∙ length-sealed key n h m ∙ omega arith in
     splice-mid part₁ 8 504 q w
     ∙ ap (λ (x : List ℕ). splice x 8 q) f
     ∙ splice-next part 0 h 8 q (omega arith) (omega arith)

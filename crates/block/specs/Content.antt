@@ -2,9 +2,10 @@
 -- which something begins: a record's first block, a file mark, end of data.
 use mathlib.Core.Path.{_≡_}
 use mathlib.Core.Bool.{Bool, true, false}
-use mathlib.Core.List.{List, [], _∷_}
-use Prim.Native.Nat.{ℕ, _≤_, _<_}
+use mathlib.Core.List.{List, []}
+use Prim.Native.Nat.{ℕ, _≤_}
 use lib.ListN.{length}
+use Rattle.laws.specs.Lists.{AllBytes}
 
 pub data Head : Type 0 where
   first : Bool → List ℕ → Head
@@ -22,10 +23,6 @@ Shut (more l b) = ⊥
 Shut (head h) = ⊥
 
 -- ---- lawful
-abbrev pub AllBytes : List ℕ → Type 0
-AllBytes [] = Unit {0}
-AllBytes (x ∷ xs) = (x < 256) × AllBytes xs
-
 -- 488 bytes are used where the record goes on, 1 to 488 in its last block
 abbrev pub Used : Bool → List ℕ → Type 0
 Used false b = AllBytes b × (length b ≡ 488)

@@ -37,10 +37,10 @@ unfoldable pub view : List ℕ → ℕ → ℕ → List ℕ → View
 view key id recording image p = openBlock key id recording p (blockAt image p)
 
 -- ---- blocks laid
-unfoldable pub put : List ℕ → ℕ → List ℕ → List ℕ
-put image p b = splice image (512 * p) b
+unfoldable pub setBlock : List ℕ → ℕ → List ℕ → List ℕ
+setBlock image p b = splice image (512 * p) b
 
 -- the blocks bs, sealed, at p and on
 unfoldable pub lay : List ℕ → ℕ → ℕ → List ℕ → ℕ → List Content → List ℕ
 lay key id recording image p [] = image
-lay key id recording image p (b ∷ bs) = lay key id recording (put image p (sealBlock key id recording p b)) (suc p) bs
+lay key id recording image p (b ∷ bs) = lay key id recording (setBlock image p (sealBlock key id recording p b)) (suc p) bs

@@ -3,3 +3,4 @@ pub mod Content
 pub mod Format
 pub mod Image
 pub mod Calls
+pub mod Steps

@@ -8,7 +8,8 @@ ghost use Rattle.aead.specs.Sealing.{sealed};
 ghost use Rattle.block.specs.Content.{flag, bytesOf};
 ghost use Rattle.block.specs.Format.{nonceAt, header, payload, number4, number2, allZero, usedOk, contentOf};
 ghost use Rattle.block.specs.Image.{sizeOk, imageThenKey};
-ghost use Rattle.block.specs.Calls.{SealedAt, headSays, seenOf, OpenedAt};
+ghost use Rattle.block.specs.Calls.{SealedAt, seenOf, OpenedAt};
+ghost use Rattle.block.specs.Steps.{headSays};
 use numbers::BLOCK_BYTES;
 use numbers::BLOCK_PAYLOAD;
 use numbers::DONE;
@@ -105,7 +106,7 @@ fn header_of(p: u32, kind: u8, last: u8, used: usize) -> [u8; 8]
 }
 
 // The bytes and zeros behind them, 488 in all.
-fn padded(bytes: &[u8]) -> [u8; BLOCK_PAYLOAD]
+fn payload_of(bytes: &[u8]) -> [u8; BLOCK_PAYLOAD]
     requires { ⌜ length (now bytes) ≤ 488 ⌝ }
     ensures { λ r. ⌜ r ≡ payload (now (bytes .entry)) ⌝ }
 {
@@ -154,7 +155,7 @@ pub fn seal_block(
     }
     let nonce = nonce_at(id, recording, p);
     let head = header_of(p, kind, flag_number(last), bytes.len());
-    let message = padded(bytes);
+    let message = payload_of(bytes);
     seal_parts(key, &nonce, &head, &message, part);
     DONE
 }

@@ -12,8 +12,10 @@ use lib.Dec.{leb, ltb}
 use lib.ListN.{length, take, drop, replicate, length-replicate, length-take, length-drop}
 use lib.Seq.{length-take-le}
 use Rattle.laws.specs.Choose.{pick, firstOf}
+use Rattle.laws.specs.Lists.{AllBytes}
+use Rattle.laws.proofs.ByteLaws.{bytes-take, bytes-drop}
 use Rattle.laws.proofs.ChooseLaws.{both-left, both-right}
-use Rattle.block.specs.Content.{eod, Content, head, Shut, AllBytes}
+use Rattle.block.specs.Content.{eod, Content, head, Shut}
 use Rattle.block.specs.Format.{openBlock}
 use Rattle.block.specs.Image.{capacityOf, imageOk, View, view, lay}
 use Rattle.block.proofs.ImageLaws as image
@@ -30,18 +32,6 @@ use Rattle.cartridge.specs.Chain.{Call, item, closing, call, took, chain
 use Rattle.cartridge.proofs.Laid.{Sound, AllSound, layout, Stands, Blank, sizes, length-layout}
 
 -- ---- an item's blocks are lawful
-
-bytes-take : (n : ℕ) (s : List ℕ) → AllBytes s → AllBytes (take n s)
-unfolding blocksFor pieces following recorded view
-bytes-take zero s h = tt
-bytes-take (suc n) [] h = tt
-bytes-take (suc n) (x ∷ s) h = (h .0, bytes-take n s (h .1))
-
-bytes-drop : (n : ℕ) (s : List ℕ) → AllBytes s → AllBytes (drop n s)
-unfolding blocksFor pieces following recorded view
-bytes-drop zero s h = h
-bytes-drop (suc n) [] h = tt
-bytes-drop (suc n) (x ∷ s) h = bytes-drop n s (h .1)
 
 lawful-pieces : (k p : ℕ) (s : List ℕ) → AllBytes s → 488 * k < length s → length s ≤ 488 * suc k → AllLawful p (following (pieces (suc k) s))
 unfolding blocksFor pieces following recorded view

@@ -5,8 +5,8 @@ use Prim.Native.Nat.{ℕ, _-_}
 use lib.ListN.{getD, take, replicate}
 use Rattle.permutation.specs.Table.{S}
 use Rattle.permutation.specs.Field.{only, double}
-use Rattle.permutation.specs.Permutation.{state, target, mix}
-use Rattle.sponge.specs.Blink.{padded}
+use Rattle.permutation.specs.Permutation.{stateBy, target, mix}
+use Rattle.sponge.specs.Blink.{padClose}
 use Rattle.writer.specs.declared.Reply.{Reply}
 use Rattle.writer.specs.declared.Reply.the-variants.{Plain, Warned, Refused}
 use Rattle.writer.specs.Items.{rec, blocksFor}
@@ -17,11 +17,11 @@ pub record Case : Type 0 where
   pub said : List ℕ
 
 unfoldable pub one-then-zeros : List ℕ
-one-then-zeros = state (λ k. only (1 - k) 1)
+one-then-zeros = stateBy (λ k. only (1 - k) 1)
 
 -- a zero state that is closed after n bytes
 unfoldable pub closed : ℕ → ℕ → List ℕ
-closed domain n = padded false domain n (replicate 64 0)
+closed domain n = padClose domain n (replicate 64 0)
 
 -- a record of n zeros at block p of a recording with c = 16 and e = 4
 unfoldable pub recordAt : ℕ → ℕ → Done

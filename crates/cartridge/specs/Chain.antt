@@ -1,7 +1,7 @@
 -- A chain: any list of calls, each given the state and image that the last one left; what was accepted is read off the replies.
 use mathlib.Core.List.{List, [], _∷_, _++_}
 use Prim.Native.Nat.{ℕ}
-use Rattle.block.specs.Content.{AllBytes}
+use Rattle.laws.specs.Lists.{AllBytes}
 use Rattle.writer.specs.declared.WriterState.{WriterState}
 use Rattle.writer.specs.declared.Reply.{Reply}
 use Rattle.writer.specs.declared.Reply.the-variants.{Plain, Warned, Refused}

@@ -9,8 +9,9 @@ use lib.ListN.{length, take, drop, length-append, length-take, length-drop, take
 use lib.ListN.{set, getD, List·getD-append}
 use native.Mathlib.Numerals.{add-one}
 use lib.Seq.{getD-append-add, getD-drop, set-at, drop-cons, take-at, drop-at, drop-drop, take-all}
-use Rattle.laws.specs.Lists.{listed, front, splice}
-use Rattle.laws.proofs.ListLaws.{listed-length, listed-join}
+use Rattle.laws.specs.Lists.{listed, splice}
+use Rattle.laws.specs.Loops.{front}
+use Rattle.laws.proofs.ListLaws.{length-listed, listed-join}
 
 pub splice-nil : (l : List ℕ) (at : ℕ) → splice l at [] ≡ l
 unfolding splice
@@ -47,8 +48,8 @@ splice-part l at b h =
 
 -- a store behind what is laid
 module _ (l : List ℕ) (at : ℕ) (b : List ℕ) (x : ℕ) (h : at + length b < length l) where
-  front-length : length (take at l ++ b) ≡ at + length b
-  front-length = simp (length-append, length-take) (omega arith)
+  length-front : length (take at l ++ b) ≡ at + length b
+  length-front = simp (length-append, length-take) (omega arith)
 
   pub splice-snoc : set (splice l at b) (at + length b) x ≡ splice l at (b ++ (x ∷ []))
   unfolding splice
@@ -56,7 +57,7 @@ module _ (l : List ℕ) (at : ℕ) (b : List ℕ) (x : ℕ) (h : at + length b <
       rw (
         ← append-assoc (take at l) b (drop (at + length b) l),
         drop-cons l (at + length b) 0 h,
-        set-at (take at l ++ b) (getD l (at + length b) 0) (drop (suc (at + length b)) l) x (at + length b) front-length,
+        set-at (take at l ++ b) (getD l (at + length b) 0) (drop (suc (at + length b)) l) x (at + length b) length-front,
       )
       (rw (length-append b (x ∷ []), ← add-assoc at (length b) 1, add-one (at + length b)) (simp append-assoc))
 
@@ -101,8 +102,8 @@ pub front-lay : (n i : ℕ) (f g : ℕ → ℕ) (s t : List ℕ) → t ≡ front
     → splice t i (listed 0 n g) ≡ front (i + n) f s
 unfolding splice front
 front-lay n i f g s t e same =
-    rw (e, take-at (listed 0 i f) (drop i s) i (listed-length 0 i f), listed-length 0 n g)
-    (rw (← drop-drop n i (listed 0 i f ++ drop i s), drop-at (listed 0 i f) (drop i s) i (listed-length 0 i f), drop-drop n i s, listed-join i n f g same)
+    rw (e, take-at (listed 0 i f) (drop i s) i (length-listed 0 i f), length-listed 0 n g)
+    (rw (← drop-drop n i (listed 0 i f ++ drop i s), drop-at (listed 0 i f) (drop i s) i (length-listed 0 i f), drop-drop n i s, listed-join i n f g same)
     (sym (append-assoc (listed 0 i f) (listed 0 n g) (drop (i + n) s))))
 
 -- what stands at k of a list with b laid over its front

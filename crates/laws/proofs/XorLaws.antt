@@ -97,14 +97,6 @@ all-swap (suc n) m f =
     ap (xor (xorAll m (λ j. f 0 j))) (all-swap n m (λ i j. f (suc i) j))
     ∙ sym (all-sum m (λ j. f 0 j) (λ j. xorAll n (λ i. f (suc i) j)))
 
-pub all-snoc : (n : ℕ) (f : ℕ → ℕ) → xorAll (suc n) f ≡ xor (xorAll n f) (f n)
-unfolding xorAll
-all-snoc zero f = simp (xor-zero, zero-xor)
-all-snoc (suc n) f = ap (xor (f 0)) (all-snoc n (λ i. f (suc i))) ∙ sym (xor-assoc (f 0) (xorAll n (λ i. f (suc i))) (f (suc n)))
-
-pub all-more : (i s v : ℕ) (f : ℕ → ℕ) → s ≡ xorAll i f → v ≡ f i → xor s v ≡ xorAll (i + 1) f
-all-more i s v f e g = rw (e, g, add-one i) (sym (all-snoc i f))
-
 pub all-byte : (n : ℕ) (f : ℕ → ℕ) → ((i : ℕ) → f i < 256) → xorAll n f < 256
 unfolding xorAll
 all-byte zero f h = lit< tt

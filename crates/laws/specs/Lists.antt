@@ -1,7 +1,7 @@
 -- Lists by their rule, and a list laid over another.
 use mathlib.Core.Bool.{Bool, true, _&&_}
 use mathlib.Core.List.{List, [], _∷_, _++_}
-use Prim.Native.Nat.{ℕ, zero, suc, _+_}
+use Prim.Native.Nat.{ℕ, zero, suc, _+_, _<_}
 use lib.Dec.{eqb}
 use lib.ListN.{length, getD, take, drop}
 
@@ -10,9 +10,9 @@ unfoldable pub listed : ℕ → ℕ → (ℕ → ℕ) → List ℕ
 listed i zero f = []
 listed i (suc n) f = f i ∷ listed (suc i) n f
 
--- the first i places by the rule f, the rest of s as it stands: a loop that rewrites s has come to i
-unfoldable pub front : ℕ → (ℕ → ℕ) → List ℕ → List ℕ
-front i f s = listed 0 i f ++ drop i s
+-- each element is a byte; past the end stands 0, which is one
+abbrev pub AllBytes : List ℕ → Type 0
+AllBytes s = (k : ℕ) → getD s k 0 < 256
 
 -- b laid over l from at on
 unfoldable pub splice : List ℕ → ℕ → List ℕ → List ℕ

@@ -7,28 +7,28 @@ use native.Mathlib.Omega.{arith}
 use native.Mathlib.Numerals.{add-one}
 use borrow.Author.Tests.{ne-eqb, eq-eqb}
 use lib.ListN.{length}
-use Rattle.permutation.specs.Permutation.{constant, round, rounds, π, round⁻, rounds⁻, π⁻, whole, Permuted, Rounded}
+use Rattle.permutation.specs.Permutation.{constant, round, rounds, π, round⁻, rounds⁻, π⁻, isState, Permuted, Rounded}
 
 pub refused : (by : List ℕ → List ℕ) (s : List ℕ) → (length s ≡ 64 → ⊥) → Permuted by s 2 s
-unfolding whole
+unfolding isState
 refused by s h = record { code = rw (ne-eqb (length s) 64 h); state = rw (ne-eqb (length s) 64 h) }
 
 pub done : (by : List ℕ → List ℕ) (s t : List ℕ) → length s ≡ 64 → t ≡ by s → Permuted by s 0 t
-unfolding whole
+unfolding isState
 done by s t h e = record { code = rw (eq-eqb (length s) 64 h); state = rw (eq-eqb (length s) 64 h) e }
 
 -- the same with a key of the caller's, where the state or the key does not fit, and where both do
 pub no-state : (by : List ℕ → List ℕ → List ℕ) (key s : List ℕ) → (length s ≡ 64 → ⊥) → Rounded by key s 2 s
-unfolding whole
+unfolding isState
 no-state by key s h = record { code = rw (ne-eqb (length s) 64 h); state = rw (ne-eqb (length s) 64 h) }
 
 pub no-key : (by : List ℕ → List ℕ → List ℕ) (key s : List ℕ) → (length key ≡ 64 → ⊥) → length s ≡ 64 → Rounded by key s 2 s
-unfolding whole
+unfolding isState
 no-key by key s h e =
     record { code = rw (eq-eqb (length s) 64 e, ne-eqb (length key) 64 h); state = rw (eq-eqb (length s) 64 e, ne-eqb (length key) 64 h) }
 
 pub keyed : (by : List ℕ → List ℕ → List ℕ) (key s t : List ℕ) → length s ≡ 64 → length key ≡ 64 → t ≡ by key s → Rounded by key s 0 t
-unfolding whole
+unfolding isState
 keyed by key s t e h g =
     record { code = rw (eq-eqb (length s) 64 e, eq-eqb (length key) 64 h); state = rw (eq-eqb (length s) 64 e, eq-eqb (length key) 64 h) g }
 

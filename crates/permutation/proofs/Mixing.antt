@@ -5,12 +5,14 @@ use mathlib.Core.List.{List, [], _∷_}
 use Prim.Native.Nat.{ℕ, zero, suc, _+_, _*_, _/_, _%_}
 use native.Mathlib.Omega.{arith}
 use lib.ListN.{length}
-use Rattle.laws.specs.Lists.{listed, front, splice}
+use Rattle.laws.specs.Lists.{listed, splice}
+use Rattle.laws.specs.Loops.{front}
 use Rattle.laws.specs.Xor.{xor, xorAll}
 use Rattle.laws.proofs.XorLaws.{ac, xor-assoc, xor-zero, zero-xor, all-same, all-zero, all-sum}
 use Rattle.laws.proofs.SpliceLaws.{front-lay}
 use Rattle.permutation.specs.Field.{only, double, timesBits, times}
-use Rattle.permutation.specs.Permutation.{turned, first, first⁻, rowAt, eight, column, mixWith}
+use Rattle.permutation.specs.Permutation.{turned, firstRow, firstRow⁻, mixWith}
+use Rattle.permutation.specs.Rows.{rowAt, eight, column}
 use Rattle.permutation.proofs.Build.{state-all}
 use Rattle.permutation.proofs.Field.{double-xor}
 use Rattle.permutation.proofs.Products.{double-zero, double-bits}
@@ -47,16 +49,16 @@ column-by-bits m x j = by-bits 8 8 (λ i. turned m i j) x
 -- ---- the last column, by three doublings, and back, by seven
 pub three : (a b c d e f g h : ℕ)
     → xor (xor (xor (xor (xor a c) e) g) h) (double (xor b (double (xor (xor c f) (double (xor a d))))))
-    ≡ horner 8 8 (λ i. turned first i 7) (eight a b c d e f g h)
-unfolding horner turned first eight only xorAll
+    ≡ horner 8 8 (λ i. turned firstRow i 7) (eight a b c d e f g h)
+unfolding horner turned firstRow eight only xorAll
 three a b c d e f g h = simp (double-zero, xor-zero, zero-xor, xor-assoc)
 
 pub seven : (a b c d e f g h : ℕ)
     → xor (xor b g) (double (xor (xor (xor (xor (xor (xor a b) c) d) f) g)
     (double (xor (xor (xor (xor (xor a e) f) g) h) (double (xor (xor (xor (xor a b) f) g) (double (xor a
     (double (xor (xor (xor a e) g) (double (xor (xor (xor b c) d) (double (xor (xor (xor (xor b c) d) e) g))))))))))))))
-    ≡ horner 8 8 (λ i. turned first⁻ i 7) (eight a b c d e f g h)
-unfolding horner turned first⁻ eight only xorAll
+    ≡ horner 8 8 (λ i. turned firstRow⁻ i 7) (eight a b c d e f g h)
+unfolding horner turned firstRow⁻ eight only xorAll
 seven a b c d e f g h = simp (double-zero, xor-zero, zero-xor, xor-assoc)
 
 -- ---- the sum of eight, begun at another place

@@ -15,26 +15,26 @@ use Rattle.laws.proofs.OrderLaws.{lt-or-ge}
 use Rattle.laws.proofs.XorLaws.{xor-undone, xor-byte}
 use Rattle.permutation.specs.Table.{S}
 use Rattle.permutation.specs.Permutation.{substitute, substitute⁻, shift, shift⁻, mix, mix⁻, scramble, scramble⁻, added, constant, round, round⁻, rounds, rounds⁻, π, π⁻}
-use Rattle.permutation.proofs.Build.{state-length, state-at, state-is}
-use Rattle.permutation.proofs.StateLaws.{Whole, state-whole}
-use Rattle.permutation.proofs.SubstituteLaws.{any-S, substitute-whole, substitute⁻-whole, substitute⁻-substitute, substitute-substitute⁻}
-use Rattle.permutation.proofs.ShiftLaws.{shift-whole, shift⁻-whole, shift⁻-shift, shift-shift⁻}
-use Rattle.permutation.proofs.MixLaws.{mix-whole, mix⁻-whole, mix⁻-mix, mix-mix⁻}
+use Rattle.permutation.proofs.Build.{length-stateBy, state-at, state-is}
+use Rattle.permutation.proofs.StateLaws.{Full, state-full}
+use Rattle.permutation.proofs.SubstituteLaws.{any-S, substitute-full, substitute⁻-full, substitute⁻-substitute, substitute-substitute⁻}
+use Rattle.permutation.proofs.ShiftLaws.{shift-full, shift⁻-full, shift⁻-shift, shift-shift⁻}
+use Rattle.permutation.proofs.MixLaws.{mix-full, mix⁻-full, mix⁻-mix, mix-mix⁻}
 
 -- ---- a key, added twice, is gone
-pub added-whole : (key s : List ℕ) → Whole key → Whole s → Whole (added key s)
+pub added-full : (key s : List ℕ) → Full key → Full s → Full (added key s)
 unfolding added
-added-whole key s wk w = state-whole _ (λ k. xor-byte (getD s k 0) (getD key k 0) (w .bytes k) (wk .bytes k))
+added-full key s wk w = state-full _ (λ k. xor-byte (getD s k 0) (getD key k 0) (w .bytes k) (wk .bytes k))
 
-pub added-added : (key s : List ℕ) → Whole s → added key (added key s) ≡ s
+pub added-added : (key s : List ℕ) → Full s → added key (added key s) ≡ s
 unfolding added
 added-added key s w =
-    state-is _ s (w .full)
+    state-is _ s (w .long)
     (λ k h. ap (λ (n : ℕ). xor n (getD key k 0)) (state-at (λ k. xor (getD s k 0) (getD key k 0)) k h) ∙ xor-undone (getD s k 0) (getD key k 0))
 
-pub constant-whole : (r : ℕ) → Whole (constant r)
+pub constant-full : (r : ℕ) → Full (constant r)
 unfolding constant
-constant-whole r = state-whole _ (λ k. either k (ltb k 8))
+constant-full r = state-full _ (λ k. either k (ltb k 8))
   where
     either : (k : ℕ) (b : Bool) → pick b (S (r * 8 + k)) 0 < 256
     either k = elim [ true ↦ any-S (r * 8 + k) | false ↦ lit< tt ]
@@ -44,74 +44,74 @@ pub other-rows : (r k : ℕ) → 8 ≤ k → getD (constant r) k 0 ≡ 0
 unfolding constant
 other-rows r k h =
     ⊎-elim (λ l. state-at _ k l ∙ rw (le-ltb k 8 h))
-    (λ l. List·getD-eq-default (constant r) 0 {n = k} (omega (arith, state-length (λ k. pick (ltb k 8) (S (r * 8 + k)) 0)))) (lt-or-ge k 64)
+    (λ l. List·getD-eq-default (constant r) 0 {n = k} (omega (arith, length-stateBy (λ k. pick (ltb k 8) (S (r * 8 + k)) 0)))) (lt-or-ge k 64)
 
 -- ---- a round, and the permutation
-pub scramble-whole : (s : List ℕ) → Whole (scramble s)
+pub scramble-full : (s : List ℕ) → Full (scramble s)
 unfolding scramble
-scramble-whole s = mix-whole _ (shift-whole _ (substitute-whole s))
+scramble-full s = mix-full _ (shift-full _ (substitute-full s))
 
-scramble⁻-whole : (s : List ℕ) → Whole (scramble⁻ s)
+scramble⁻-full : (s : List ℕ) → Full (scramble⁻ s)
 unfolding scramble⁻
-scramble⁻-whole s = substitute⁻-whole _
+scramble⁻-full s = substitute⁻-full _
 
-scramble⁻-scramble : (s : List ℕ) → Whole s → scramble⁻ (scramble s) ≡ s
+scramble⁻-scramble : (s : List ℕ) → Full s → scramble⁻ (scramble s) ≡ s
 unfolding scramble scramble⁻
 scramble⁻-scramble s w =
-    let w₁ = substitute-whole s in
-    ap (λ (t : List ℕ). substitute⁻ (shift⁻ t)) (mix⁻-mix (shift (substitute s)) (shift-whole (substitute s) w₁))
+    let w₁ = substitute-full s in
+    ap (λ (t : List ℕ). substitute⁻ (shift⁻ t)) (mix⁻-mix (shift (substitute s)) (shift-full (substitute s) w₁))
     ∙ ap substitute⁻ (shift⁻-shift (substitute s) w₁)
     ∙ substitute⁻-substitute s w
 
-scramble-scramble⁻ : (s : List ℕ) → Whole s → scramble (scramble⁻ s) ≡ s
+scramble-scramble⁻ : (s : List ℕ) → Full s → scramble (scramble⁻ s) ≡ s
 unfolding scramble scramble⁻
 scramble-scramble⁻ s w =
-    let w₁ = mix⁻-whole s w in
-    ap (λ (t : List ℕ). mix (shift t)) (substitute-substitute⁻ (shift⁻ (mix⁻ s)) (shift⁻-whole (mix⁻ s) w₁))
+    let w₁ = mix⁻-full s w in
+    ap (λ (t : List ℕ). mix (shift t)) (substitute-substitute⁻ (shift⁻ (mix⁻ s)) (shift⁻-full (mix⁻ s) w₁))
     ∙ ap mix (shift-shift⁻ (mix⁻ s) w₁)
     ∙ mix-mix⁻ s w
 
-pub round⁻-round : (key s : List ℕ) → Whole s → round⁻ key (round key s) ≡ s
+pub round⁻-round : (key s : List ℕ) → Full s → round⁻ key (round key s) ≡ s
 unfolding round round⁻
-round⁻-round key s w = ap scramble⁻ (added-added key (scramble s) (scramble-whole s)) ∙ scramble⁻-scramble s w
+round⁻-round key s w = ap scramble⁻ (added-added key (scramble s) (scramble-full s)) ∙ scramble⁻-scramble s w
 
-pub round-round⁻ : (key s : List ℕ) → Whole key → Whole s → round key (round⁻ key s) ≡ s
+pub round-round⁻ : (key s : List ℕ) → Full key → Full s → round key (round⁻ key s) ≡ s
 unfolding round round⁻
-round-round⁻ key s wk w = ap (added key) (scramble-scramble⁻ (added key s) (added-whole key s wk w)) ∙ added-added key s w
+round-round⁻ key s wk w = ap (added key) (scramble-scramble⁻ (added key s) (added-full key s wk w)) ∙ added-added key s w
 
-pub round-whole : (key s : List ℕ) → Whole key → Whole (round key s)
+pub round-full : (key s : List ℕ) → Full key → Full (round key s)
 unfolding round
-round-whole key s wk = added-whole key (scramble s) wk (scramble-whole s)
+round-full key s wk = added-full key (scramble s) wk (scramble-full s)
 
-pub round⁻-whole : (key s : List ℕ) → Whole (round⁻ key s)
+pub round⁻-full : (key s : List ℕ) → Full (round⁻ key s)
 unfolding round⁻
-round⁻-whole key s = scramble⁻-whole (added key s)
+round⁻-full key s = scramble⁻-full (added key s)
 
-rounds-whole : (n : ℕ) (s : List ℕ) → Whole s → Whole (rounds n s)
+rounds-full : (n : ℕ) (s : List ℕ) → Full s → Full (rounds n s)
 unfolding rounds
-rounds-whole zero s w = w
-rounds-whole (suc n) s w = round-whole (constant n) (rounds n s) (constant-whole n)
+rounds-full zero s w = w
+rounds-full (suc n) s w = round-full (constant n) (rounds n s) (constant-full n)
 
-rounds⁻-rounds : (n : ℕ) (s : List ℕ) → Whole s → rounds⁻ n (rounds n s) ≡ s
+rounds⁻-rounds : (n : ℕ) (s : List ℕ) → Full s → rounds⁻ n (rounds n s) ≡ s
 unfolding rounds rounds⁻
 rounds⁻-rounds zero s w = refl
-rounds⁻-rounds (suc n) s w = ap (rounds⁻ n) (round⁻-round (constant n) (rounds n s) (rounds-whole n s w)) ∙ rounds⁻-rounds n s w
+rounds⁻-rounds (suc n) s w = ap (rounds⁻ n) (round⁻-round (constant n) (rounds n s) (rounds-full n s w)) ∙ rounds⁻-rounds n s w
 
-rounds-rounds⁻ : (n : ℕ) (s : List ℕ) → Whole s → rounds n (rounds⁻ n s) ≡ s
+rounds-rounds⁻ : (n : ℕ) (s : List ℕ) → Full s → rounds n (rounds⁻ n s) ≡ s
 unfolding rounds rounds⁻
 rounds-rounds⁻ zero s w = refl
 rounds-rounds⁻ (suc n) s w =
-    ap (round (constant n)) (rounds-rounds⁻ n (round⁻ (constant n) s) (round⁻-whole (constant n) s))
-    ∙ round-round⁻ (constant n) s (constant-whole n) w
+    ap (round (constant n)) (rounds-rounds⁻ n (round⁻ (constant n) s) (round⁻-full (constant n) s))
+    ∙ round-round⁻ (constant n) s (constant-full n) w
 
-pub π-whole : (s : List ℕ) → Whole s → Whole (π s)
+pub π-full : (s : List ℕ) → Full s → Full (π s)
 unfolding π
-π-whole s w = rounds-whole 12 s w
+π-full s w = rounds-full 12 s w
 
-pub π⁻-π : (s : List ℕ) → Whole s → π⁻ (π s) ≡ s
+pub π⁻-π : (s : List ℕ) → Full s → π⁻ (π s) ≡ s
 unfolding π π⁻
 π⁻-π s w = rounds⁻-rounds 12 s w
 
-pub π-π⁻ : (s : List ℕ) → Whole s → π (π⁻ s) ≡ s
+pub π-π⁻ : (s : List ℕ) → Full s → π (π⁻ s) ≡ s
 unfolding π π⁻
 π-π⁻ s w = rounds-rounds⁻ 12 s w

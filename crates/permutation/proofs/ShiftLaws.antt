@@ -10,17 +10,17 @@ use lib.ListN.{getD}
 use Rattle.laws.specs.Lists.{listed}
 use Rattle.laws.proofs.TableLaws.{at}
 use Rattle.permutation.specs.Table.{S, S⁻}
-use Rattle.permutation.specs.Permutation.{state, substitute, substitute⁻, source, target, shift, shift⁻}
+use Rattle.permutation.specs.Permutation.{stateBy, substitute, substitute⁻, source, target, shift, shift⁻}
 use Rattle.permutation.proofs.Build.{state-at, state-is, state-same}
-use Rattle.permutation.proofs.StateLaws.{Whole, places, state-whole}
+use Rattle.permutation.proofs.StateLaws.{Full, places, state-full}
 
-pub shift-whole : (s : List ℕ) → Whole s → Whole (shift s)
+pub shift-full : (s : List ℕ) → Full s → Full (shift s)
 unfolding shift
-shift-whole s w = state-whole _ (λ k. w .bytes (source k))
+shift-full s w = state-full _ (λ k. w .bytes (source k))
 
-pub shift⁻-whole : (s : List ℕ) → Whole s → Whole (shift⁻ s)
+pub shift⁻-full : (s : List ℕ) → Full s → Full (shift⁻ s)
 unfolding shift⁻
-shift⁻-whole s w = state-whole _ (λ k. w .bytes (target k))
+shift⁻-full s w = state-full _ (λ k. w .bytes (target k))
 
 target-below : (k : ℕ) → target k < 64
 unfolding target
@@ -31,11 +31,11 @@ unfolding source
 source-below k = omega arith
 
 -- both steps at once
-pub moved : (s : List ℕ) → state (λ k. S (getD s (source k) 0)) ≡ shift (substitute s)
+pub moved : (s : List ℕ) → stateBy (λ k. S (getD s (source k) 0)) ≡ shift (substitute s)
 unfolding shift substitute
 moved s = state-same _ _ (λ k h. sym (state-at (λ k. S (getD s k 0)) (source k) (source-below k)))
 
-pub moved⁻ : (s : List ℕ) → state (λ k. S⁻ (getD s (target k) 0)) ≡ substitute⁻ (shift⁻ s)
+pub moved⁻ : (s : List ℕ) → stateBy (λ k. S⁻ (getD s (target k) 0)) ≡ substitute⁻ (shift⁻ s)
 unfolding shift⁻ substitute⁻
 moved⁻ s = state-same _ _ (λ k h. ap S⁻ (sym (state-at (λ k. getD s (target k) 0) k h)))
 
@@ -58,10 +58,10 @@ pub shift-moves : (s : List ℕ) (k : ℕ) → k < 64 → getD (shift s) (target
 unfolding shift
 shift-moves s k h = state-at (λ k. getD s (source k) 0) (target k) (target-below k) ∙ ap (λ (n : ℕ). getD s n 0) (source-target k h)
 
-pub shift⁻-shift : (s : List ℕ) → Whole s → shift⁻ (shift s) ≡ s
+pub shift⁻-shift : (s : List ℕ) → Full s → shift⁻ (shift s) ≡ s
 unfolding shift shift⁻
-shift⁻-shift s w = state-is _ s (w .full) (λ k h. state-at (λ k. getD s (source k) 0) (target k) (target-below k) ∙ ap (λ (n : ℕ). getD s n 0) (source-target k h))
+shift⁻-shift s w = state-is _ s (w .long) (λ k h. state-at (λ k. getD s (source k) 0) (target k) (target-below k) ∙ ap (λ (n : ℕ). getD s n 0) (source-target k h))
 
-pub shift-shift⁻ : (s : List ℕ) → Whole s → shift (shift⁻ s) ≡ s
+pub shift-shift⁻ : (s : List ℕ) → Full s → shift (shift⁻ s) ≡ s
 unfolding shift shift⁻
-shift-shift⁻ s w = state-is _ s (w .full) (λ k h. state-at (λ k. getD s (target k) 0) (source k) (source-below k) ∙ ap (λ (n : ℕ). getD s n 0) (target-source k h))
+shift-shift⁻ s w = state-is _ s (w .long) (λ k h. state-at (λ k. getD s (target k) 0) (source k) (source-below k) ∙ ap (λ (n : ℕ). getD s n 0) (target-source k h))

@@ -7,29 +7,29 @@ use Prim.Native.Nat.{ℕ, _<_}
 use native.Mathlib.Omega.{arith}
 use lib.Dec.{T, lit<, ltb, ltb→lt}
 use lib.ListN.{length, getD, List·getD-eq-default}
-use Rattle.laws.specs.Lists.{listed}
+use Rattle.laws.specs.Lists.{listed, AllBytes}
 use Rattle.laws.proofs.OrderLaws.{lt-or-ge}
 use Rattle.laws.proofs.TableLaws.{every, at}
-use Rattle.permutation.specs.Permutation.{state}
-use Rattle.permutation.proofs.Build.{state-length, state-at}
+use Rattle.permutation.specs.Permutation.{stateBy}
+use Rattle.permutation.proofs.Build.{length-stateBy, state-at}
 
 -- a list of 64 bytes
-pub record Whole (s : List ℕ) : Type 0 where
-  pub full : length s ≡ 64
-  pub bytes : (k : ℕ) → getD s k 0 < 256
+pub record Full (s : List ℕ) : Type 0 where
+  pub long : length s ≡ 64
+  pub bytes : AllBytes s
 
 -- 0, 1, .. 63, for the tests at each place
 unfoldable pub places : List ℕ
 places = listed 0 64 (λ k. k)
 
 -- the bytes of a state by its rule, and of any list that passes the test
-pub state-whole : (f : ℕ → ℕ) → ((k : ℕ) → f k < 256) → Whole (state f)
-state-whole f h =
+pub state-full : (f : ℕ → ℕ) → ((k : ℕ) → f k < 256) → Full (stateBy f)
+state-full f h =
     record {
-      full = state-length f;
+      long = length-stateBy f;
       bytes =
           λ k. ⊎-elim (λ l. subst (λ (n : ℕ). n < 256) (sym (state-at f k l)) (h k))
-          (λ l. subst (λ (n : ℕ). n < 256) (sym (List·getD-eq-default (state f) 0 {n = k} (omega (arith, state-length f)))) (lit< tt)) (lt-or-ge k 64);
+          (λ l. subst (λ (n : ℕ). n < 256) (sym (List·getD-eq-default (stateBy f) 0 {n = k} (omega (arith, length-stateBy f)))) (lit< tt)) (lt-or-ge k 64);
     }
 
 pub list-bytes : (m : List ℕ) → T (every (λ k x. ltb x 256) 0 m) → (k : ℕ) → getD m k 0 < 256

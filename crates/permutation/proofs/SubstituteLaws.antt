@@ -8,7 +8,7 @@ use Rattle.permutation.specs.Table.{S, S⁻, table, backTable}
 use Rattle.permutation.specs.Permutation.{substitute, substitute⁻}
 use Rattle.permutation.proofs.Build.{state-at, state-is}
 use Rattle.permutation.proofs.Tables.{S⁻-S, S-S⁻}
-use Rattle.permutation.proofs.StateLaws.{Whole, state-whole, list-bytes}
+use Rattle.permutation.proofs.StateLaws.{Full, state-full, list-bytes}
 
 pub any-S : (x : ℕ) → S x < 256
 unfolding S table
@@ -18,18 +18,18 @@ pub any-S⁻ : (x : ℕ) → S⁻ x < 256
 unfolding S⁻ backTable
 any-S⁻ x = list-bytes backTable tt x
 
-pub substitute-whole : (s : List ℕ) → Whole (substitute s)
+pub substitute-full : (s : List ℕ) → Full (substitute s)
 unfolding substitute
-substitute-whole s = state-whole _ (λ k. any-S (getD s k 0))
+substitute-full s = state-full _ (λ k. any-S (getD s k 0))
 
-pub substitute⁻-whole : (s : List ℕ) → Whole (substitute⁻ s)
+pub substitute⁻-full : (s : List ℕ) → Full (substitute⁻ s)
 unfolding substitute⁻
-substitute⁻-whole s = state-whole _ (λ k. any-S⁻ (getD s k 0))
+substitute⁻-full s = state-full _ (λ k. any-S⁻ (getD s k 0))
 
-pub substitute⁻-substitute : (s : List ℕ) → Whole s → substitute⁻ (substitute s) ≡ s
+pub substitute⁻-substitute : (s : List ℕ) → Full s → substitute⁻ (substitute s) ≡ s
 unfolding substitute substitute⁻
-substitute⁻-substitute s w = state-is _ s (w .full) (λ k h. ap S⁻ (state-at (λ k. S (getD s k 0)) k h) ∙ S⁻-S (getD s k 0) (w .bytes k))
+substitute⁻-substitute s w = state-is _ s (w .long) (λ k h. ap S⁻ (state-at (λ k. S (getD s k 0)) k h) ∙ S⁻-S (getD s k 0) (w .bytes k))
 
-pub substitute-substitute⁻ : (s : List ℕ) → Whole s → substitute (substitute⁻ s) ≡ s
+pub substitute-substitute⁻ : (s : List ℕ) → Full s → substitute (substitute⁻ s) ≡ s
 unfolding substitute substitute⁻
-substitute-substitute⁻ s w = state-is _ s (w .full) (λ k h. ap S (state-at (λ k. S⁻ (getD s k 0)) k h) ∙ S-S⁻ (getD s k 0) (w .bytes k))
+substitute-substitute⁻ s w = state-is _ s (w .long) (λ k h. ap S (state-at (λ k. S⁻ (getD s k 0)) k h) ∙ S-S⁻ (getD s k 0) (w .bytes k))

@@ -13,12 +13,12 @@ use Rattle.permutation.specs.Table.{S, S⁻}
 use Rattle.permutation.specs.Field.{times}
 
 -- the state whose byte at k is f k
-unfoldable pub state : (ℕ → ℕ) → List ℕ
-state f = listed 0 64 f
+unfoldable pub stateBy : (ℕ → ℕ) → List ℕ
+stateBy f = listed 0 64 f
 
 -- ---- substitute: each byte by the table
 unfoldable pub substitute : List ℕ → List ℕ
-substitute s = state (λ k. S (getD s k 0))
+substitute s = stateBy (λ k. S (getD s k 0))
 
 -- ---- shift: the byte at row i, column j moves to row (i + j) mod 8, same column
 unfoldable pub target : ℕ → ℕ
@@ -29,45 +29,35 @@ unfoldable pub source : ℕ → ℕ
 source k = (k / 8 + 8 - k % 8) % 8 * 8 + k % 8
 
 unfoldable pub shift : List ℕ → List ℕ
-shift s = state (λ k. getD s (source k) 0)
+shift s = stateBy (λ k. getD s (source k) 0)
 
 -- ---- mix: each row, as a row vector, times the circulant matrix, given by its first row
-unfoldable pub first : List ℕ
-first = 1 ∷ 1 ∷ 4 ∷ 1 ∷ 8 ∷ 5 ∷ 2 ∷ 9 ∷ []
+unfoldable pub firstRow : List ℕ
+firstRow = 1 ∷ 1 ∷ 4 ∷ 1 ∷ 8 ∷ 5 ∷ 2 ∷ 9 ∷ []
 
 -- the matrix's entry at row i, column j: each next row is turned one place right
 unfoldable pub turned : List ℕ → ℕ → ℕ → ℕ
 turned m i j = getD m ((j + 8 - i) % 8) 0
 
 unfoldable pub mixWith : List ℕ → List ℕ → List ℕ
-mixWith m s = state (λ k. xorAll 8 (λ i. times (turned m i (k % 8)) (getD s (k / 8 * 8 + i) 0)))
+mixWith m s = stateBy (λ k. xorAll 8 (λ i. times (turned m i (k % 8)) (getD s (k / 8 * 8 + i) 0)))
 
 unfoldable pub mix : List ℕ → List ℕ
-mix s = mixWith first s
-
--- a row of eight bytes by place: given one by one, or the one that begins at b in s; and column j of its product
-unfoldable pub eight : ℕ → ℕ → ℕ → ℕ → ℕ → ℕ → ℕ → ℕ → ℕ → ℕ
-eight a b c d e f g h i = getD (a ∷ b ∷ c ∷ d ∷ e ∷ f ∷ g ∷ h ∷ []) i 0
-
-unfoldable pub rowAt : List ℕ → ℕ → ℕ → ℕ
-rowAt s b i = getD s (b + i) 0
-
-unfoldable pub column : List ℕ → (ℕ → ℕ) → ℕ → ℕ
-column m x j = xorAll 8 (λ i. times (turned m i j) (x i))
+mix s = mixWith firstRow s
 
 -- ---- a round: substitute, shift, mix, then a key of 64 bytes by xor
 unfoldable pub scramble : List ℕ → List ℕ
 scramble s = mix (shift (substitute s))
 
 unfoldable pub added : List ℕ → List ℕ → List ℕ
-added key s = state (λ k. xor (getD s k 0) (getD key k 0))
+added key s = stateBy (λ k. xor (getD s k 0) (getD key k 0))
 
 unfoldable pub round : List ℕ → List ℕ → List ℕ
 round key s = added key (scramble s)
 
 -- ---- the permutation: the key of round r has the table's entry at 8r + j in row 0, column j, and nothing in the other rows
 unfoldable pub constant : ℕ → List ℕ
-constant r = state (λ k. pick (ltb k 8) (S (r * 8 + k)) 0)
+constant r = stateBy (λ k. pick (ltb k 8) (S (r * 8 + k)) 0)
 
 -- the rounds 0, 1, .. n - 1
 unfoldable pub rounds : ℕ → List ℕ → List ℕ
@@ -79,16 +69,16 @@ unfoldable pub π : List ℕ → List ℕ
 
 -- ---- and back
 unfoldable pub substitute⁻ : List ℕ → List ℕ
-substitute⁻ s = state (λ k. S⁻ (getD s k 0))
+substitute⁻ s = stateBy (λ k. S⁻ (getD s k 0))
 
 unfoldable pub shift⁻ : List ℕ → List ℕ
-shift⁻ s = state (λ k. getD s (target k) 0)
+shift⁻ s = stateBy (λ k. getD s (target k) 0)
 
-unfoldable pub first⁻ : List ℕ
-first⁻ = 0x04 ∷ 0xAF ∷ 0x0E ∷ 0xA4 ∷ 0xC2 ∷ 0xC2 ∷ 0xCB ∷ 0x3E ∷ []
+unfoldable pub firstRow⁻ : List ℕ
+firstRow⁻ = 0x04 ∷ 0xAF ∷ 0x0E ∷ 0xA4 ∷ 0xC2 ∷ 0xC2 ∷ 0xCB ∷ 0x3E ∷ []
 
 unfoldable pub mix⁻ : List ℕ → List ℕ
-mix⁻ s = mixWith first⁻ s
+mix⁻ s = mixWith firstRow⁻ s
 
 unfoldable pub scramble⁻ : List ℕ → List ℕ
 scramble⁻ s = substitute⁻ (shift⁻ (mix⁻ s))
@@ -105,14 +95,14 @@ unfoldable pub π⁻ : List ℕ → List ℕ
 π⁻ s = rounds⁻ 12 s
 
 -- ---- what a call gives: 0 and the new state, or 2 and the given one, by the lengths
-unfoldable pub whole : List ℕ → Bool
-whole s = eqb (length s) 64
+unfoldable pub isState : List ℕ → Bool
+isState s = eqb (length s) 64
 
 pub record Permuted (by : List ℕ → List ℕ) (before : List ℕ) (r : ℕ) (after : List ℕ) : Type 0 where
-  pub code : r ≡ pick (whole before) 0 2
-  pub state : after ≡ pick (whole before) (by before) before
+  pub code : r ≡ pick (isState before) 0 2
+  pub state : after ≡ pick (isState before) (by before) before
 
 -- one round with a key of the caller's: both have 64 bytes
 pub record Rounded (by : List ℕ → List ℕ → List ℕ) (key before : List ℕ) (r : ℕ) (after : List ℕ) : Type 0 where
-  pub code : r ≡ pick (whole before && whole key) 0 2
-  pub state : after ≡ pick (whole before && whole key) (by key before) before
+  pub code : r ≡ pick (isState before && isState key) 0 2
+  pub state : after ≡ pick (isState before && isState key) (by key before) before

@@ -5,16 +5,15 @@ ghost use lib.ListN.{length, getD};
 ghost use Rattle.laws.specs.Lists.{listed, splice};
 ghost use Rattle.permutation.specs.Table.{table, backTable, S, S⁻, E, E⁻, R};
 ghost use Rattle.permutation.specs.Field.{double};
-ghost use Rattle.permutation.specs.Permutation.{substitute, source, shift, first, rowAt, eight, column, mix, scramble, added, constant, round, π, Permuted, Rounded, substitute⁻, target, shift⁻, first⁻, mix⁻, scramble⁻, round⁻, π⁻};
+ghost use Rattle.permutation.specs.Permutation.{substitute, source, shift, firstRow, mix, scramble, added, constant, round, π, Permuted, Rounded, substitute⁻, target, shift⁻, firstRow⁻, mix⁻, scramble⁻, round⁻, π⁻};
+ghost use Rattle.permutation.specs.Rows.{rowAt, eight, column};
+use numbers::DONE;
+use numbers::STATE_BYTES;
+use numbers::WRONG_LENGTH;
 
 mod back;
 mod boxes;
 mod table;
-
-// The bytes of a state and of a key, and the answer where there are more or fewer.
-const SIZE: usize = 64;
-
-const WRONG_SIZE: u8 = 2;
 
 // ---- The table. It is copied to memory once a call, and lent: a constant array is copied anew wherever it is read.
 fn substituted(t: &[u8; 256], x: u8) -> u8
@@ -63,7 +62,7 @@ fn put_row(to: &mut [u8], b: usize, x: [u8; 8])
 
 // The last column: 9a + 2b + 5c + 8d + 1e + 4f + 1g + 1h, from the highest bit of the coefficients down.
 fn cell(a: u8, b: u8, c: u8, d: u8, e: u8, f: u8, g: u8, h: u8) -> u8
-    ensures { λ r. ⌜ r ≡ column first (eight a b c d e f g h) 7 ⌝ }
+    ensures { λ r. ⌜ r ≡ column firstRow (eight a b c d e f g h) 7 ⌝ }
 {
     a ^ c ^ e ^ g ^ h ^ double(b ^ double(c ^ f ^ double(a ^ d)))
 }
@@ -71,7 +70,7 @@ fn cell(a: u8, b: u8, c: u8, d: u8, e: u8, f: u8, g: u8, h: u8) -> u8
 // The row that begins at i, mixed: each column is the last one of the row turned.
 fn mixed_row(from: &[u8; 64], i: usize) -> [u8; 8]
     requires { ⌜ i + 8 ≤ 64 ⌝ }
-    ensures { λ r. ⌜ r ≡ listed 0 8 (column first (rowAt (now (from .entry)) i)) ⌝ }
+    ensures { λ r. ⌜ r ≡ listed 0 8 (column firstRow (rowAt (now (from .entry)) i)) ⌝ }
 {
     let a = from[i];
     let b = from[i + 1];
@@ -134,14 +133,14 @@ fn pi_round(t: &[u8; 256], state: &mut [u8], r: usize)
 pub fn permute(state: &mut [u8]) -> u8
     ensures { λ r. ⌜ Permuted π (now (state .entry)) r (now (state .exit)) ⌝ }
 {
-    if state.len() != SIZE {
-        return WRONG_SIZE;
+    if state.len() != STATE_BYTES {
+        return WRONG_LENGTH;
     }
     let t = table::TABLE;
     for r in 0..12 {
         pi_round(&t, state, r);
     }
-    0
+    DONE
 }
 
 fn add_key(state: &mut [u8], key: &[u8])
@@ -155,16 +154,16 @@ fn add_key(state: &mut [u8], key: &[u8])
 pub fn round(state: &mut [u8], key: &[u8]) -> u8
     ensures { λ r. ⌜ Rounded round (now (key .entry)) (now (state .entry)) r (now (state .exit)) ⌝ }
 {
-    if state.len() != SIZE {
-        return WRONG_SIZE;
+    if state.len() != STATE_BYTES {
+        return WRONG_LENGTH;
     }
-    if key.len() != SIZE {
-        return WRONG_SIZE;
+    if key.len() != STATE_BYTES {
+        return WRONG_LENGTH;
     }
     let t = table::TABLE;
     scramble(&t, state);
     add_key(state, key);
-    0
+    DONE
 }
 
 // ---- And back.
@@ -193,7 +192,7 @@ fn shift_and_substitute_back(t: &[u8; 256], from: &[u8; 64], to: &mut [u8])
 
 // The last column: 3Ea + CBb + C2c + C2d + A4e + 0Ef + AFg + 04h, bit by bit as `cell`.
 fn cell_back(a: u8, b: u8, c: u8, d: u8, e: u8, f: u8, g: u8, h: u8) -> u8
-    ensures { λ r. ⌜ r ≡ column first⁻ (eight a b c d e f g h) 7 ⌝ }
+    ensures { λ r. ⌜ r ≡ column firstRow⁻ (eight a b c d e f g h) 7 ⌝ }
 {
     let p = a ^ e ^ g ^ double(b ^ c ^ d ^ double(b ^ c ^ d ^ e ^ g));
     let q = a ^ b ^ f ^ g ^ double(a ^ double(p));
@@ -203,7 +202,7 @@ fn cell_back(a: u8, b: u8, c: u8, d: u8, e: u8, f: u8, g: u8, h: u8) -> u8
 
 fn mixed_row_back(from: &[u8], i: usize) -> [u8; 8]
     requires { ⌜ (length (now from) ≡ 64) × (i + 8 ≤ 64) ⌝ }
-    ensures { λ r. ⌜ r ≡ listed 0 8 (column first⁻ (rowAt (now (from .entry)) i)) ⌝ }
+    ensures { λ r. ⌜ r ≡ listed 0 8 (column firstRow⁻ (rowAt (now (from .entry)) i)) ⌝ }
 {
     let a = from[i];
     let b = from[i + 1];
@@ -257,8 +256,8 @@ fn pi_round_back(t: &[u8; 256], b: &[u8; 256], state: &mut [u8], r: usize)
 pub fn permute_back(state: &mut [u8]) -> u8
     ensures { λ r. ⌜ Permuted π⁻ (now (state .entry)) r (now (state .exit)) ⌝ }
 {
-    if state.len() != SIZE {
-        return WRONG_SIZE;
+    if state.len() != STATE_BYTES {
+        return WRONG_LENGTH;
     }
     let t = table::TABLE;
     let b = back::BACK;
@@ -267,23 +266,23 @@ pub fn permute_back(state: &mut [u8]) -> u8
         r = r - 1;
         pi_round_back(&t, &b, state, r);
     }
-    0
+    DONE
 }
 
 // The state becomes the one that a round with this key takes to it, with 0; or stays, with 2, where either length is not 64.
 pub fn round_back(state: &mut [u8], key: &[u8]) -> u8
     ensures { λ r. ⌜ Rounded round⁻ (now (key .entry)) (now (state .entry)) r (now (state .exit)) ⌝ }
 {
-    if state.len() != SIZE {
-        return WRONG_SIZE;
+    if state.len() != STATE_BYTES {
+        return WRONG_LENGTH;
     }
-    if key.len() != SIZE {
-        return WRONG_SIZE;
+    if key.len() != STATE_BYTES {
+        return WRONG_LENGTH;
     }
     let b = back::BACK;
     add_key(state, key);
     scramble_back(&b, state);
-    0
+    DONE
 }
 
 // ---- The table by its miniboxes.

@@ -1,22 +1,22 @@
 -- The lent buffer: a block opened into it, and zeros behind what is kept.
 -- Assumes nothing.
-use borrow.Author.Tests.{eq-eqb, le-leb}
 use mathlib.Core.Path.{_≡_, refl, sym, ap, _∙_}
-use mathlib.Core.Bool.{true}
 use mathlib.Core.List.{List, _∷_, _++_, append-assoc}
 use Prim.Native.Nat.{ℕ, zero, suc, _+_, _-_, _*_, _≤_}
 use native.Mathlib.Nat.{zero-add, suc-add}
 use native.Mathlib.Omega.{arith}
 use lib.ListN.{length, take, drop, replicate, length-append, length-take, length-drop, length-replicate}
-use lib.Seq.{take-at, take-take, drop-append-add, drop-drop, length-take-le}
+use lib.Seq.{take-at, take-take, drop-drop, length-take-le}
 use Rattle.laws.specs.Lists.{splice}
+use Rattle.laws.proofs.ListLaws.{drop-behind}
 use Rattle.laws.proofs.SpliceLaws.{splice-mid}
 use Rattle.block.specs.declared.Seen.{Seen}
 use Rattle.block.specs.Content.{Content, bytesOf}
 use Rattle.block.specs.Format.{payload, openBlock}
 use Rattle.block.specs.Image.{blockAt, view}
-use Rattle.block.specs.Calls.{seenOf, openable, OpenedAt}
-use Rattle.block.proofs.PayloadLaws.{payload-length}
+use Rattle.block.specs.Calls.{seenOf, OpenedAt}
+use Rattle.block.proofs.OpenLaws.{may-open}
+use Rattle.block.proofs.PayloadLaws.{length-payload}
 
 -- ---- zeros
 zeros-join : (n k : ℕ) → replicate {A = ℕ} n 0 ++ replicate k 0 ≡ replicate (n + k) 0
@@ -32,15 +32,12 @@ zeros-back l k n h e =
     ∙ splice-mid l k n (replicate n 0) (length-replicate {A = ℕ} n 0)
 
 -- ---- what is laid
-past : (a b d : List ℕ) (n r : ℕ) → length a + (length b + r) ≡ n → drop n (a ++ (b ++ d)) ≡ drop r d
-past a b d n r e = rw (← e) (drop-append-add a (b ++ d) (length b + r) ∙ drop-append-add b d r)
-
 pub drop-splice : (l : List ℕ) (at : ℕ) (x : List ℕ) (j : ℕ) → at ≤ length l → at + length x ≤ j → drop j (splice l at x) ≡ drop j l
 unfolding splice
 drop-splice l at x j h k =
     let n = length-take-le at l h in
     let e : at + length x + (j - (at + length x)) ≡ j = omega arith in
-    past (take at l) x (drop (at + length x) l) j (j - (at + length x)) (omega arith)
+    drop-behind (take at l) x (drop (at + length x) l) j (j - (at + length x)) (omega arith)
     ∙ drop-drop (j - (at + length x)) (at + length x) l
     ∙ ap (λ (i : ℕ). drop i l) e
 
@@ -78,10 +75,6 @@ cleared n b₀ b r k h m e f =
     rw (e, i, f, j) (zeros-behind r (drop n b₀) (k - length r) (n - k) (n - length r) (omega arith))
 
 -- ---- a block opened into its place
-may-open : (key part out : List ℕ) → length key ≡ 24 → 512 ≤ length part → length out ≡ 488 → openable key part out ≡ true
-unfolding openable
-may-open key part out a b c = rw (eq-eqb (length key) 24 a, le-leb 512 (length part) b, eq-eqb (length out) 488 c)
-
 module _ (key : List ℕ) (id recording : ℕ) (image : List ℕ) (q : ℕ) {part out out′ : List ℕ} {r : Seen} (hk : length key ≡ 24)
     (hi : q * 512 + 512 ≤ length image) (hp : part ≡ take (length image - 512 * q) (drop (512 * q) image)) (ho : length out ≡ 488)
     (c : OpenedAt key id recording q part out r out′) where
@@ -103,4 +96,4 @@ module _ (key : List ℕ) (id recording : ℕ) (image : List ℕ) (q : ℕ) {par
   opened-leaves buffer at n hn =
       let y = payload (bytesOf (view key id recording image q)) in
       ap (λ (x : List ℕ). take at buffer ++ (x ++ drop n (drop at buffer))) {x = out′} {y = y} opened-bytes
-      ∙ splice-mid buffer at n y (payload-length (bytesOf (view key id recording image q)) ∙ sym hn)
+      ∙ splice-mid buffer at n y (length-payload (bytesOf (view key id recording image q)) ∙ sym hn)

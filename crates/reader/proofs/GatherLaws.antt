@@ -16,14 +16,14 @@ use Rattle.block.specs.Content.{Content, shut, more, head, first, mark, eod, by
 use Rattle.block.specs.Format.{payload}
 use Rattle.block.specs.Image.{View, capacityOf}
 use Rattle.block.specs.Calls.{seenOf}
-use Rattle.block.proofs.PayloadLaws.{payload-length, payload-is}
+use Rattle.block.proofs.PayloadLaws.{length-payload, payload-is}
 use Rattle.reader.specs.declared.Outcome.{Outcome}
 use Rattle.reader.specs.declared.Outcome.the-variants as o
 use Rattle.reader.specs.declared.Got.{Got}
 use Rattle.reader.specs.Walk.{Told, Record, Mark, End, Bad, Stray, Cut, Answer, answer, inside, gather, between, readAt}
 use Rattle.reader.specs.Reading.{outcomeOf, recordOf, gotOf, filled}
 use Rattle.reader.proofs.BufferLaws.{drop-splice, take-laid, cleared, splice-over}
-use Rattle.reader.proofs.ViewLaws.{Sized, sized-most}
+use Rattle.block.proofs.ViewLaws.{Sized, sized-most}
 
 -- ---- what the code sees is what a content is
 shut-seen : (c : Content) → seenOf c ≡ seen.Shut → c ≡ shut
@@ -118,14 +118,14 @@ module _ {v : View} {end q at : ℕ} {a : Answer} {b₀ b b₁ : List ℕ} {s : 
   turn-back =
       let h = t .room in
       let g = t .long in
-      let n = payload-length x in
+      let n = length-payload x in
       ap (drop 31232) (t .leaves) ∙ drop-splice b at (payload x) 31232 (omega arith) (omega arith) ∙ t .back
 
   turn-front : take (at + 488) b₁ ≡ take at b ++ payload x
   turn-front =
       let h = t .room in
       let g = t .long in
-      let n = payload-length x in
+      let n = length-payload x in
       ap (take (at + 488)) (t .leaves) ∙ take-laid b at (payload x) (at + 488) (omega arith) (omega arith)
 
   turns : (c : Content) → v q ≡ c → a ≡ inside c q (take at b) (λ y. gather (end - (q + 1)) v (q + 1) y)
@@ -185,10 +185,10 @@ module _ {v : View} (c : ℕ) {p : ℕ} {b₀ b₁ : List ℕ} {s : Seen} (t : B
   f = bytesOf (v p)
 
   begun-back : drop 31232 b₁ ≡ drop 31232 b₀
-  begun-back = let n = payload-length f in ap (drop 31232) (t .leaves) ∙ drop-splice b₀ 0 (payload f) 31232 (omega arith) (omega arith)
+  begun-back = let n = length-payload f in ap (drop 31232) (t .leaves) ∙ drop-splice b₀ 0 (payload f) 31232 (omega arith) (omega arith)
 
   begun-front : take 488 b₁ ≡ payload f
-  begun-front = ap (take 488) (t .leaves) ∙ take-splice b₀ 488 (payload f) (payload-length f)
+  begun-front = ap (take 488) (t .leaves) ∙ take-splice b₀ 488 (payload f) (length-payload f)
 
   begins-as : (d : Content) → v p ≡ d → readAt v c p ≡ between d v c p
   unfolding readAt
@@ -222,7 +222,7 @@ module _ {v : View} (c : ℕ) {p : ℕ} {b₀ b₁ : List ℕ} {s : Seen} (t : B
   begun-first {r = r} {b′ = b′} e y l =
       let m = first-seen (v p) (sym (t .says) ∙ e) in
       let k : length f ≡ 488 = subst Sized (m .0) (t .sized) in
-      let n = payload-length f in
+      let n = length-payload f in
       let w : gather (min (c - (p + 1)) 63) v (p + 1) (take 488 b₁) ≡ readAt v c p =
       ap (gather (min (c - (p + 1)) 63) v (p + 1)) (begun-front ∙ payload-whole f k) ∙ ap (λ (i : ℕ). gather (min (c - i) 63) v i f) (add-one p) ∙ sym (begins-as (head (first false f)) (m .0)) in (
         y ∙ ap gotOf w,

@@ -1,7 +1,6 @@
 -- What is true of reading.
 pub mod ImageTests
 pub mod BufferLaws
-pub mod ViewLaws
 pub mod GatherLaws
 pub mod Unique
 pub mod WalkLaws

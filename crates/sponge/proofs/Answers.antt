@@ -11,14 +11,14 @@ use lib.ListN.{length, take}
 use lib.Seq.{take-all}
 use Rattle.laws.specs.Choose.{firstOf}
 use Rattle.laws.specs.Lists.{splice}
-use Rattle.permutation.specs.Permutation.{π, whole, Permuted}
+use Rattle.permutation.specs.Permutation.{π, isState, Permuted}
 use Rattle.sponge.specs.Blink.{Op, put, after, out, number, Put, Ran}
-use Rattle.sponge.specs.Ways.{Done}
+use Rattle.sponge.specs.Ways.{RanAll}
 use Rattle.sponge.proofs.Groups.{laid}
 
 -- the permutation, of a state of 64 bytes
 pub turned : {s t u : List ℕ} {r : ℕ} → Permuted π t r u → t ≡ s → length t ≡ 64 → u ≡ π s
-unfolding whole
+unfolding isState
 turned {s} {t} p e h = rw (eq-eqb (length t) 64 h) at (p .state) ∙ ap π e
 
 -- what holds of the lengths where a call is not refused
@@ -34,7 +34,7 @@ all-true true false c e = absurd (omega arith)
 all-true false b c e = absurd (omega arith)
 
 pub allowed : (v s o : List ℕ) → number v s o ≡ 0 → Allowed v s o
-unfolding number whole
+unfolding number isState
 allowed v s o e =
     let t = all-true (eqb (length v) 64) (eqb (length o) (length s)) (leb (length s) 65536) e in
     record {
@@ -56,7 +56,7 @@ module _ (op : Op) (domain : ℕ) (s v o : List ℕ) (r : ℕ) (e : r ≡ number
       record { code = e; state = rw n; bytes = rw n }
 
   -- the bytes s in the buffer when the work begins
-  pub ran-done : (s₁ v′ o′ : List ℕ) → r ≡ 0 → s₁ ≡ s → Done op domain s₁ v v′ o′ → Ran op domain s v o 0 v′ o′
+  pub ran-done : (s₁ v′ o′ : List ℕ) → r ≡ 0 → s₁ ≡ s → RanAll op domain s₁ v v′ o′ → Ran op domain s v o 0 v′ o′
   ran-done s₁ v′ o′ z c d =
       let n = eq-eqb (number v s o) 0 (sym e ∙ z) in
       record {

@@ -5,11 +5,11 @@ use mathlib.Core.List.{List}
 use Prim.Native.Nat.{ℕ, _≤_}
 use borrow.Author.Tests.{eq-eqb, le-leb}
 use lib.ListN.{length}
-use Rattle.permutation.specs.Permutation.{whole}
+use Rattle.permutation.specs.Permutation.{isState}
 use Rattle.sponge.specs.Blink.{Op, put, after, out, number, Put, Ran}
 
 pub number-zero : (v s o : List ℕ) → length v ≡ 64 → length o ≡ length s → length s ≤ 65536 → number v s o ≡ 0
-unfolding number whole
+unfolding number isState
 number-zero v s o h k l = rw (eq-eqb (length v) 64 h, eq-eqb (length o) (length s) k, le-leb (length s) 65536 l)
 
 pub put-leaves : {domain r : ℕ} {s v v′ : List ℕ} → Put domain s v r v′ → length v ≡ 64 → length s ≤ 65536 → v′ ≡ after put domain v s

@@ -11,7 +11,7 @@ use lib.Seq.{length-take-le}
 use Rattle.laws.proofs.SpliceLaws.{length-splice}
 use Rattle.permutation.specs.Permutation.{π, rounds, round}
 use Rattle.sponge.specs.Blink.{Op, put, get, enc, dec, kept, given, group, runs, met, gave, after, out}
-use Rattle.sponge.proofs.Groups.{added-length, masked-length}
+use Rattle.sponge.proofs.Groups.{length-added, length-masked}
 
 -- all but put give bytes
 abbrev pub gives : Op → Bool
@@ -20,28 +20,28 @@ gives get = true
 gives enc = true
 gives dec = true
 
-pub π-length : (s : List ℕ) → length (π s) ≡ 64
+pub length-π : (s : List ℕ) → length (π s) ≡ 64
 unfolding π rounds round
-π-length s = added-length _ _
+length-π s = length-added _ _
 
 -- ---- one group
-pub kept-length : (op : Op) (v g : List ℕ) → length v ≡ 64 → length g ≤ 64 → length (kept op v g) ≡ 64
+pub length-kept : (op : Op) (v g : List ℕ) → length v ≡ 64 → length g ≤ 64 → length (kept op v g) ≡ 64
 unfolding kept
-kept-length put v g h b = added-length g v
-kept-length get v g h b = h
-kept-length enc v g h b = added-length g v
-kept-length dec v g h b = length-splice v 0 g (omega arith) ∙ h
+length-kept put v g h b = length-added g v
+length-kept get v g h b = h
+length-kept enc v g h b = length-added g v
+length-kept dec v g h b = length-splice v 0 g (omega arith) ∙ h
 
-pub given-length : (op : Op) → T (gives op) → (v g : List ℕ) → length v ≡ 64 → length g ≤ 64 → length (given op v g) ≡ length g
+pub length-given : (op : Op) → T (gives op) → (v g : List ℕ) → length v ≡ 64 → length g ≤ 64 → length (given op v g) ≡ length g
 unfolding given
-given-length put t v g h b = absurd t
-given-length get t v g h b = length-take-le (length g) v (omega arith)
-given-length enc t v g h b = masked-length g v b
-given-length dec t v g h b = masked-length g v b
+length-given put t v g h b = absurd t
+length-given get t v g h b = length-take-le (length g) v (omega arith)
+length-given enc t v g h b = length-masked g v b
+length-given dec t v g h b = length-masked g v b
 
-pub group-length : (s : List ℕ) (k : ℕ) → length (group s k) ≡ min 32 (length s - k * 32)
+pub length-group : (s : List ℕ) (k : ℕ) → length (group s k) ≡ min 32 (length s - k * 32)
 unfolding group
-group-length s k = simp (length-take, length-drop)
+length-group s k = simp (length-take, length-drop)
 
 -- ---- the groups of s
 pub runs-count : (s : List ℕ) → runs s ≡ max ((length s + 31) / 32) 1
@@ -61,23 +61,23 @@ pub runs-full : (s : List ℕ) (k : ℕ) → k < runs s → k * 32 ≤ length s
 unfolding runs
 runs-full s k h = omega arith
 
-pub met-length : (op : Op) (domain : ℕ) (v s : List ℕ) (k : ℕ) → length v ≡ 64 → length (met op domain v s k) ≡ 64
+pub length-met : (op : Op) (domain : ℕ) (v s : List ℕ) (k : ℕ) → length v ≡ 64 → length (met op domain v s k) ≡ 64
 unfolding met
-met-length op domain v s zero h = h
-met-length op domain v s (suc k) h = π-length _
+length-met op domain v s zero h = h
+length-met op domain v s (suc k) h = length-π _
 
-pub after-length : (op : Op) (domain : ℕ) (v s : List ℕ) → length (after op domain v s) ≡ 64
+pub length-after : (op : Op) (domain : ℕ) (v s : List ℕ) → length (after op domain v s) ≡ 64
 unfolding after runs met
-after-length op domain v s = π-length _
+length-after op domain v s = length-π _
 
-pub gave-length : (op : Op) → T (gives op) → (domain : ℕ) (v s : List ℕ) (k : ℕ) → length v ≡ 64 → length (gave op domain v s k) ≡ min (k * 32) (length s)
+pub length-gave : (op : Op) → T (gives op) → (domain : ℕ) (v s : List ℕ) (k : ℕ) → length v ≡ 64 → length (gave op domain v s k) ≡ min (k * 32) (length s)
 unfolding gave
-gave-length op t domain v s zero h = omega arith
-gave-length op t domain v s (suc k) h =
-    let l = given-length op t (met op domain v s k) (group s k) (met-length op domain v s k h) (omega (arith, group-length s k)) in
+length-gave op t domain v s zero h = omega arith
+length-gave op t domain v s (suc k) h =
+    let l = length-given op t (met op domain v s k) (group s k) (length-met op domain v s k h) (omega (arith, length-group s k)) in
     length-append (gave op domain v s k) (given op (met op domain v s k) (group s k))
-    ∙ omega (arith, gave-length op t domain v s k h, l, group-length s k)
+    ∙ omega (arith, length-gave op t domain v s k h, l, length-group s k)
 
-pub out-length : (op : Op) → T (gives op) → (domain : ℕ) (v s : List ℕ) → length v ≡ 64 → length (out op domain v s) ≡ length s
+pub length-out : (op : Op) → T (gives op) → (domain : ℕ) (v s : List ℕ) → length v ≡ 64 → length (out op domain v s) ≡ length s
 unfolding out
-out-length op t domain v s h = gave-length op t domain v s (runs s) h ∙ omega (arith, runs-hold s)
+length-out op t domain v s h = length-gave op t domain v s (runs s) h ∙ omega (arith, runs-hold s)

@@ -13,11 +13,11 @@ use lib.Seq.{take-at, drop-at, drop-drop, take-all}
 use Rattle.laws.specs.Xor.{xor}
 use Rattle.laws.proofs.OrderLaws.{lt-or-ge}
 use Rattle.permutation.specs.Permutation.{π}
-use Rattle.sponge.specs.Blink.{Op, kept, given, into, padded, group, runs, met, gave, after, out}
+use Rattle.sponge.specs.Blink.{Op, kept, given, into, padBetween, padClose, group, runs, met, gave, after, out}
 use Rattle.sponge.specs.Ways.{opOf}
 use Rattle.sponge.specs.declared.Way.{Way}
 use Rattle.sponge.specs.declared.Way.the-variants.{Get, Enc, Dec}
-use Rattle.sponge.proofs.Lengths.{gives, gave-length}
+use Rattle.sponge.proofs.Lengths.{gives, length-gave}
 
 pub met-none : (op : Op) (domain : ℕ) (v s : List ℕ) → v ≡ met op domain v s 0
 unfolding met
@@ -32,12 +32,12 @@ module _ (op : Op) (domain : ℕ) (v s : List ℕ) (k : ℕ) (v₁ v₂ v₃ g :
   so-far = done ∙ ap₂ (kept op) here part
 
   pub met-more : k < (length s - 1) / 32 → v₃ ≡ π (into 32 domain v₂) → v₃ ≡ met op domain v s (k + 1)
-  unfolding met padded runs
+  unfolding met padBetween runs
   met-more h e =
       rw (add-one, lt-ltb (suc k) (suc ((length s - 1) / 32)) (omega arith)) (e ∙ ap (λ (t : List ℕ). π (into 32 domain t)) so-far)
 
   pub met-last : (n : ℕ) → n ≡ length g → k ≡ (length s - 1) / 32 → v₃ ≡ π (into 32 (xor 0x02 domain) (into n 0x01 v₂)) → v₃ ≡ after op domain v s
-  unfolding after met padded runs
+  unfolding after met padClose runs
   met-last n en ek e =
       rw (← ek, le-ltb (suc k) (suc k) (omega arith))
       (e ∙ ap₂ (λ (m : ℕ) (t : List ℕ). π (into 32 (xor 0x02 domain) (into m 0x01 t))) (en ∙ ap length part) so-far)
@@ -62,7 +62,7 @@ module _ (s : List ℕ) (k n : ℕ) (e : n ≡ min 32 (length s - k * 32)) where
 -- ---- the buffer io, in which k groups are done, and the next is worked on as n bytes from k * 32 on
 module _ (op : Op) (t : T (gives op)) (domain : ℕ) (v s : List ℕ) (k n : ℕ) (io : List ℕ) (full : length v ≡ 64) (inside : k * 32 ≤ length s) (e : n ≡ min 32 (length s - k * 32)) (so : io ≡ gave op domain v s k ++ drop (k * 32) s) where
   gone : length (gave op domain v s k) ≡ k * 32
-  gone = omega (arith, gave-length op t domain v s k full)
+  gone = omega (arith, length-gave op t domain v s k full)
 
   rest-is : drop (k * 32) io ≡ drop (k * 32) s
   rest-is = ap (drop (k * 32)) so ∙ drop-at (gave op domain v s k) (drop (k * 32) s) (k * 32) gone

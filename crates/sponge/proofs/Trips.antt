@@ -10,10 +10,11 @@ use lib.ListN.{length, take, drop, length-drop}
 use lib.Seq.{take-add, take-all, take-append-le, drop-append-le, drop-at}
 use Rattle.laws.proofs.OrderLaws.{lt-or-ge}
 use Rattle.permutation.specs.Permutation.{π}
-use Rattle.sponge.specs.Blink.{Op, enc, dec, kept, given, padded, group, runs, met, gave, after, out}
-use Rattle.sponge.specs.Ways.{Done}
+use Rattle.laws.specs.Choose.{pick}
+use Rattle.sponge.specs.Blink.{Op, enc, dec, kept, given, padBetween, padClose, group, runs, met, gave, after, out}
+use Rattle.sponge.specs.Ways.{RanAll}
 use Rattle.sponge.proofs.Groups.{added-masked, masked-masked, splice-masked}
-use Rattle.sponge.proofs.Lengths.{gives, given-length, group-length, runs-same, runs-hold, runs-full, met-length, gave-length, out-length}
+use Rattle.sponge.proofs.Lengths.{gives, length-given, length-group, runs-same, runs-hold, runs-full, length-met, length-gave, length-out}
 
 -- back undoes op on each group
 pub record Undoes (back op : Op) : Type 0 where
@@ -54,23 +55,23 @@ module _ (xs ys : List ℕ) (m : ℕ) (l : length xs ≡ m * 32) where
 -- ---- op on p, then back on what it gave
 module _ (back op : Op) (u : Undoes back op) (d : ℕ) (v p : List ℕ) (full : length v ≡ 64) where
   small : (k : ℕ) → length (group p k) ≤ 64
-  small k = omega (arith, group-length p k)
+  small k = omega (arith, length-group p k)
 
   given-size : (k : ℕ) → length (given op (met op d v p k) (group p k)) ≡ length (group p k)
-  given-size k = given-length op (u .gives) (met op d v p k) (group p k) (met-length op d v p k full) (small k)
+  given-size k = length-given op (u .gives) (met op d v p k) (group p k) (length-met op d v p k full) (small k)
 
   -- a group of what m groups gave
   given-at : (m : ℕ) → m ≤ runs p → (k : ℕ) → k < m → group (gave op d v p m) k ≡ given op (met op d v p k) (group p k)
   unfolding gave
   given-at zero b k h = absurd (omega arith)
   given-at (suc m) b k h =
-      let l : length (gave op d v p m) ≡ m * 32 = omega (arith, gave-length op (u .gives) d v p m full, runs-full p m (omega arith)) in
+      let l : length (gave op d v p m) ≡ m * 32 = omega (arith, length-gave op (u .gives) d v p m full, runs-full p m (omega arith)) in
       let g = given op (met op d v p m) (group p m) in
       ⊎-elim (λ q. group-before (gave op d v p m) g m l k q ∙ given-at m (omega arith) k q)
       (λ q.
       let e : k ≡ m = omega arith in
       ap (group (gave op d v p m ++ g)) e
-      ∙ group-behind (gave op d v p m) g m l (omega (arith, given-size m, group-length p m))
+      ∙ group-behind (gave op d v p m) g m l (omega (arith, given-size m, length-group p m))
       ∙ ap (λ (j : ℕ). given op (met op d v p j) (group p j)) (sym e))
       (lt-or-ge k m)
 
@@ -79,17 +80,17 @@ module _ (back op : Op) (u : Undoes back op) (d : ℕ) (v p : List ℕ) (full : 
   group-out k h = given-at (runs p) (omega arith) k h
 
   runs-out : runs (out op d v p) ≡ runs p
-  runs-out = runs-same (out op d v p) p (out-length op (u .gives) d v p full)
+  runs-out = runs-same (out op d v p) p (length-out op (u .gives) d v p full)
 
   met-back : (k : ℕ) → k ≤ runs p → met back d v (out op d v p) k ≡ met op d v p k
   unfolding met
   met-back zero b = refl
   met-back (suc k) b =
       let c = out op d v p in
-      let kc = ap₂ (kept back) (met-back k (omega arith)) (group-out k b) ∙ u .state (met op d v p k) (group p k) (met-length op d v p k full) (small k) in
+      let kc = ap₂ (kept back) (met-back k (omega arith)) (group-out k b) ∙ u .state (met op d v p k) (group p k) (length-met op d v p k full) (small k) in
       let lc = ap length (group-out k b) ∙ given-size k in
-      ap (λ (r : ℕ). π (padded (ltb (suc k) r) d (length (group c k)) (kept back (met back d v c k) (group c k)))) runs-out
-      ∙ ap₂ (λ (n : ℕ) (t : List ℕ). π (padded (ltb (suc k) (runs p)) d n t)) lc kc
+      ap (λ (r : ℕ). π (pick (ltb (suc k) r) (padBetween d) (padClose d (length (group c k))) (kept back (met back d v c k) (group c k)))) runs-out
+      ∙ ap₂ (λ (n : ℕ) (t : List ℕ). π (pick (ltb (suc k) (runs p)) (padBetween d) (padClose d n) t)) lc kc
 
   gave-back : (k : ℕ) → k ≤ runs p → gave back d v (out op d v p) k ≡ take (k * 32) p
   unfolding gave group
@@ -97,7 +98,7 @@ module _ (back op : Op) (u : Undoes back op) (d : ℕ) (v p : List ℕ) (full : 
   gave-back (suc k) b =
       let n : k * 32 + 32 ≡ suc k * 32 = omega arith in
       ap₂ _++_ (gave-back k (omega arith))
-      (ap₂ (given back) (met-back k (omega arith)) (group-out k b) ∙ u .bytes (met op d v p k) (group p k) (met-length op d v p k full) (small k))
+      (ap₂ (given back) (met-back k (omega arith)) (group-out k b) ∙ u .bytes (met op d v p k) (group p k) (length-met op d v p k full) (small k))
       ∙ sym (take-add (k * 32) 32 p)
       ∙ ap (λ (j : ℕ). take j p) n
 
@@ -117,7 +118,7 @@ module _ (back op : Op) (u : Undoes back op) (d : ℕ) (v p : List ℕ) (full : 
       ∙ take-all (runs p * 32) p (runs-hold p)
 
   -- what op gives from v and p, back takes to p, and to the same state
-  pub undone : (v′ c : List ℕ) → Done op d p v v′ c → Done back d c v v′ p
+  pub undone : (v′ c : List ℕ) → RanAll op d p v v′ c → RanAll back d c v v′ p
   undone v′ c g =
       record {
         state = g .state ∙ sym after-back ∙ ap (after back d v) (sym (g .bytes));
@@ -139,5 +140,5 @@ module _ (d : ℕ) (v : List ℕ) (full : length v ≡ 64) where
   enc-out-dec c = out-back enc dec enc-undoes d v c full
 
   -- enc gives (v′, c) from (v, p) exactly if dec gives (v′, p) from (v, c)
-  pub enc-exactly-dec : (p v′ c : List ℕ) → (Done enc d p v v′ c → Done dec d c v v′ p) × (Done dec d c v v′ p → Done enc d p v v′ c)
+  pub enc-exactly-dec : (p v′ c : List ℕ) → (RanAll enc d p v v′ c → RanAll dec d c v v′ p) × (RanAll dec d c v v′ p → RanAll enc d p v v′ c)
   enc-exactly-dec p v′ c = (undone dec enc dec-undoes d v p full v′ c, undone enc dec enc-undoes d v c full v′ p)

@@ -8,7 +8,7 @@ use lib.ListN.{length, getD, set, take, drop}
 use Rattle.laws.specs.Choose.{pick, firstOf}
 use Rattle.laws.specs.Lists.{splice}
 use Rattle.laws.specs.Xor.{xor}
-use Rattle.permutation.specs.Permutation.{π, added, whole}
+use Rattle.permutation.specs.Permutation.{π, added, isState}
 
 pub data Op : Type 0 where
   put : Op
@@ -33,10 +33,13 @@ given dec v g = take (length g) (added g v)
 unfoldable pub into : ℕ → ℕ → List ℕ → List ℕ
 into i x v = set v i (xor (getD v i 0) x)
 
--- between groups the domain byte alone into byte 32; at the close 01 into byte n, which is 32 behind a full group, then 02 and the domain byte into byte 32
-unfoldable pub padded : Bool → ℕ → ℕ → List ℕ → List ℕ
-padded true domain n v = into 32 domain v
-padded false domain n v = into 32 (xor 0x02 domain) (into n 0x01 v)
+-- between groups the domain byte alone into byte 32
+unfoldable pub padBetween : ℕ → List ℕ → List ℕ
+padBetween domain v = into 32 domain v
+
+-- at the close 01 into byte n, which is 32 behind a full group, then 02 and the domain byte into byte 32
+unfoldable pub padClose : ℕ → ℕ → List ℕ → List ℕ
+padClose domain n v = into 32 (xor 0x02 domain) (into n 0x01 v)
 
 -- ---- an operation on the bytes s: its groups, and one π for each; an operation of no bytes has one empty group
 unfoldable pub group : List ℕ → ℕ → List ℕ
@@ -49,7 +52,8 @@ runs s = suc ((length s - 1) / 32)
 unfoldable pub met : Op → ℕ → List ℕ → List ℕ → ℕ → List ℕ
 met op domain v s zero = v
 met op domain v s (suc k) =
-    π (padded (ltb (suc k) (runs s)) domain (length (group s k)) (kept op (met op domain v s k) (group s k)))
+    π
+    (pick (ltb (suc k) (runs s)) (padBetween domain) (padClose domain (length (group s k))) (kept op (met op domain v s k) (group s k)))
 
 -- what k groups give
 unfoldable pub gave : Op → ℕ → List ℕ → List ℕ → ℕ → List ℕ
@@ -65,7 +69,7 @@ out op domain v s = gave op domain v s (runs s)
 
 -- ---- what a call gives. 2: the state has not 64 bytes, or the buffer o not the length of s; 9: over 65,536 bytes
 unfoldable pub number : List ℕ → List ℕ → List ℕ → ℕ
-number v s o = firstOf (whole v && eqb (length o) (length s)) 2 (firstOf (leb (length s) 65536) 9 0)
+number v s o = firstOf (isState v && eqb (length o) (length s)) 2 (firstOf (leb (length s) 65536) 9 0)
 
 -- put: the state alone
 pub record Put (domain : ℕ) (s v : List ℕ) (r : ℕ) (v′ : List ℕ) : Type 0 where

@@ -1,4 +1,4 @@
--- The code's name of an operation that gives bytes; what the code's parts promise.
+-- Cited by private contracts alone: the code's name of an operation that gives bytes, and what its parts promise.
 use mathlib.Core.Path.{_≡_}
 use mathlib.Core.List.{List}
 use Prim.Native.Nat.{ℕ}
@@ -17,6 +17,6 @@ pub record Worked (op : Op) (g v v′ g′ : List ℕ) : Type 0 where
   pub bytes : g′ ≡ given op v g
 
 -- all of s
-pub record Done (op : Op) (domain : ℕ) (s v v′ s′ : List ℕ) : Type 0 where
+pub record RanAll (op : Op) (domain : ℕ) (s v v′ s′ : List ℕ) : Type 0 where
   pub state : v′ ≡ after op domain v s
   pub bytes : s′ ≡ out op domain v s

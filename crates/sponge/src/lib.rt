@@ -5,12 +5,13 @@ ghost use lib.ListN.{length, take};
 ghost use Rattle.laws.specs.Xor.{xor};
 ghost use Rattle.permutation.specs.Permutation.{π, added};
 ghost use Rattle.sponge.specs.Blink.{put, get, enc, dec, into, after, number, Put, Ran};
-ghost use Rattle.sponge.specs.Ways.{opOf, Worked, Done};
-
-// The numbers of a refusal.
-const WRONG_LENGTH: u8 = 2;
-
-const TOO_LONG: u8 = 9;
+ghost use Rattle.sponge.specs.Ways.{opOf, Worked, RanAll};
+use numbers::ABOVE_LIMIT;
+use numbers::DONE;
+use numbers::OPERATION_MAX;
+use numbers::RATE_BYTES;
+use numbers::STATE_BYTES;
+use numbers::WRONG_LENGTH;
 
 // The operations that give bytes.
 enum Way {
@@ -58,7 +59,7 @@ fn work(way: Way, state: &mut [u8], group: &mut [u8])
 
 // ---- The padding, and π.
 // x into byte i, by xor.
-fn mark(state: &mut [u8], i: usize, x: u8)
+fn into_byte(state: &mut [u8], i: usize, x: u8)
     requires { ⌜ i < length (now state) ⌝ }
     ensures { λ _. ⌜ now (state .exit) ≡ into i x (now (state .entry)) ⌝ }
 {
@@ -70,7 +71,7 @@ fn between(state: &mut [u8], domain: u8)
     requires { ⌜ length (now state) ≡ 64 ⌝ }
     ensures { λ _. ⌜ now (state .exit) ≡ π (into 32 domain (now (state .entry))) ⌝ }
 {
-    mark(state, 32, domain);
+    into_byte(state, RATE_BYTES, domain);
     permutation::permute(state);
 }
 
@@ -79,8 +80,8 @@ fn close(state: &mut [u8], n: usize, domain: u8)
     requires { ⌜ (length (now state) ≡ 64) × (n ≤ 32) ⌝ }
     ensures { λ _. ⌜ now (state .exit) ≡ π (into 32 (xor 0x02 domain) (into n 0x01 (now (state .entry)))) ⌝ }
 {
-    mark(state, n, 0x01);
-    mark(state, 32, 0x02 ^ domain);
+    into_byte(state, n, 0x01);
+    into_byte(state, RATE_BYTES, 0x02 ^ domain);
     permutation::permute(state);
 }
 
@@ -89,7 +90,7 @@ fn close(state: &mut [u8], n: usize, domain: u8)
 fn last(n: usize) -> usize
     ensures { λ r. ⌜ r ≡ (n - 1) / 32 ⌝ }
 {
-    if n == 0 { 0 } else { (n - 1) / 32 }
+    if n == 0 { 0 } else { (n - 1) / RATE_BYTES }
 }
 
 // All of the bytes into the state.
@@ -100,11 +101,11 @@ fn absorb(state: &mut [u8], bytes: &[u8], domain: u8)
     let n = bytes.len();
     let m = last(n);
     for k in 0..m {
-        let at = k * 32;
-        add(state, &bytes[at..at + 32]);
+        let at = k * RATE_BYTES;
+        add(state, &bytes[at..at + RATE_BYTES]);
         between(state, domain);
     }
-    let at = m * 32;
+    let at = m * RATE_BYTES;
     add(state, &bytes[at..]);
     close(state, n - at, domain);
 }
@@ -112,16 +113,16 @@ fn absorb(state: &mut [u8], bytes: &[u8], domain: u8)
 // All of io, in place.
 fn run(way: Way, state: &mut [u8], io: &mut [u8], domain: u8)
     requires { ⌜ (length (now state) ≡ 64) × (length (now io) ≤ 65536) ⌝ }
-    ensures { λ _. ⌜ Done (opOf way) domain (now (io .entry)) (now (state .entry)) (now (state .exit)) (now (io .exit)) ⌝ }
+    ensures { λ _. ⌜ RanAll (opOf way) domain (now (io .entry)) (now (state .entry)) (now (state .exit)) (now (io .exit)) ⌝ }
 {
     let n = io.len();
     let m = last(n);
     for k in 0..m {
-        let at = k * 32;
-        work(way, state, &mut io[at..at + 32]);
+        let at = k * RATE_BYTES;
+        work(way, state, &mut io[at..at + RATE_BYTES]);
         between(state, domain);
     }
-    let at = m * 32;
+    let at = m * RATE_BYTES;
     work(way, state, &mut io[at..]);
     close(state, n - at, domain);
 }
@@ -130,13 +131,17 @@ fn run(way: Way, state: &mut [u8], io: &mut [u8], domain: u8)
 fn number(state: &[u8], bytes: &[u8], out: &[u8]) -> u8
     ensures { λ r. ⌜ r ≡ number (now (state .entry)) (now (bytes .entry)) (now (out .entry)) ⌝ }
 {
-    if state.len() != 64 {
+    if state.len() != STATE_BYTES {
         return WRONG_LENGTH;
     }
     if out.len() != bytes.len() {
         return WRONG_LENGTH;
     }
-    if bytes.len() <= 65536 { 0 } else { TOO_LONG }
+    if bytes.len() <= OPERATION_MAX {
+        DONE
+    } else {
+        ABOVE_LIMIT
+    }
 }
 
 // Absorbs the bytes.
@@ -144,11 +149,11 @@ pub fn put(state: &mut [u8], bytes: &[u8], domain: u8) -> u8
     ensures { λ r. ⌜ Put domain (now (bytes .entry)) (now (state .entry)) r (now (state .exit)) ⌝ }
 {
     let no = number(state, bytes, bytes);
-    if no != 0 {
+    if no != DONE {
         return no;
     }
     absorb(state, bytes, domain);
-    0
+    DONE
 }
 
 // Squeezes out as many bytes as `out` has.
@@ -156,11 +161,11 @@ pub fn get(state: &mut [u8], out: &mut [u8], domain: u8) -> u8
     ensures { λ r. ⌜ Ran get domain (now (out .entry)) (now (state .entry)) (now (out .entry)) r (now (state .exit)) (now (out .exit)) ⌝ }
 {
     let no = number(state, out, out);
-    if no != 0 {
+    if no != DONE {
         return no;
     }
     run(Way::Get, state, out, domain);
-    0
+    DONE
 }
 
 // enc and dec: the bytes are copied, then worked on in place.
@@ -168,12 +173,12 @@ fn through(way: Way, state: &mut [u8], bytes: &[u8], out: &mut [u8], domain: u8)
     ensures { λ r. ⌜ Ran (opOf way) domain (now (bytes .entry)) (now (state .entry)) (now (out .entry)) r (now (state .exit)) (now (out .exit)) ⌝ }
 {
     let no = number(state, bytes, out);
-    if no != 0 {
+    if no != DONE {
         return no;
     }
     buffer::copy(out, bytes);
     run(way, state, out, domain);
-    0
+    DONE
 }
 
 // Encrypts the message to `out`.

@@ -21,7 +21,7 @@ use Rattle.reader.specs.Walk.{Told, Record, Mark, End, Bad, Stray, Cut, Answer,
 use Rattle.reader.specs.Reading.{outcomeOf, gotOf}
 use Rattle.survey.specs.Spacing.{spaceOn, spaceFrom}
 use Rattle.survey.specs.Steps.{got, insideBy, restBy, turn}
-use Rattle.reader.proofs.ViewLaws.{Sized, sized-most, view-sized}
+use Rattle.block.proofs.ViewLaws.{Sized, sized-most, view-sized}
 use Rattle.reader.proofs.WalkLaws.{Onward, read-onward}
 
 -- ---- the bytes that a seen block uses: at most 488

@@ -14,7 +14,7 @@ use lib.Seq.{drop-drop, take-all}
 use Rattle.laws.specs.Choose.{pick}
 use Rattle.block.specs.Content.{Content, more, head, first, flag}
 use Rattle.block.specs.Format.{blockOf, sealBlock}
-use Rattle.block.specs.Image.{put, lay}
+use Rattle.block.specs.Image.{setBlock, lay}
 use Rattle.writer.specs.Items.{Item, rec, fmark, blocksFor, size, blocks, pieces, isNil, following, recorded, piece, pieceAt}
 
 -- ---- how many there are
@@ -70,7 +70,7 @@ pub lay-none : (key : List ℕ) (id recording : ℕ) (image : List ℕ) (p : ℕ
 lay-none key id recording image p bs = rw add-zero
 
 pub lay-next : (key : List ℕ) (id recording : ℕ) (image image′ : List ℕ) (p k i : ℕ) (b : List ℕ) → k ≡ blocksFor (length b) → i < k
-    → image′ ≡ put image (p + i) (sealBlock key id recording (p + i) (pieceAt b k i))
+    → image′ ≡ setBlock image (p + i) (sealBlock key id recording (p + i) (pieceAt b k i))
     → lay key id recording image′ (p + (i + 1)) (drop (i + 1) (blocks (rec b))) ≡ lay key id recording image (p + i) (drop i (blocks (rec b)))
 unfolding lay
 lay-next key id recording image image′ p k i b q h e =

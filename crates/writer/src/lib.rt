@@ -4,7 +4,7 @@ ghost use mathlib.Core.List.{[]};
 ghost use Prim.Native.Nat.{_+_, _*_, _≤_, _<_};
 ghost use lib.ListN.{length};
 ghost use Rattle.block.specs.Format.{blockOf, sealBlock};
-ghost use Rattle.block.specs.Image.{put, lay};
+ghost use Rattle.block.specs.Image.{setBlock, lay};
 ghost use Rattle.writer.specs.Items.{rec, fmark, blocksFor, blocks, pieceAt};
 ghost use Rattle.writer.specs.Writing.{zoneOk, lawful, itemNumber, closeNumber, start, write, close, Did};
 use numbers::BLOCK_BYTES;
@@ -112,7 +112,7 @@ fn lay_piece(
     image: &mut [u8],
 )
     requires { ⌜ (length (now key) ≡ 24) × ((p + i) * 512 + 512 ≤ length (now image)) × (p + i < 128) × (i < k) × (k ≡ blocksFor (length (now bytes))) ⌝ }
-    ensures { λ _. ⌜ now (image .exit) ≡ put (now (image .entry)) (p + i) (sealBlock (now (key .entry)) id recording (p + i) (pieceAt (now (bytes .entry)) k i)) ⌝ }
+    ensures { λ _. ⌜ now (image .exit) ≡ setBlock (now (image .entry)) (p + i) (sealBlock (now (key .entry)) id recording (p + i) (pieceAt (now (bytes .entry)) k i)) ⌝ }
 {
     let at = (p + i) * BLOCK_BYTES;
     let from = i * BLOCK_PAYLOAD;
@@ -156,7 +156,7 @@ fn lay_record(
 // Lays a block that has no payload, a file mark or end of data, at p.
 fn lay_empty(key: &[u8], id: u32, recording: u64, p: usize, kind: u8, image: &mut [u8])
     requires { ⌜ (length (now key) ≡ 24) × (p * 512 + 512 ≤ length (now image)) × (p < 128) × (1 ≤ kind) × (kind ≤ 4) ⌝ }
-    ensures { λ _. ⌜ now (image .exit) ≡ put (now (image .entry)) p (blockOf (now (key .entry)) id recording p kind 0 []) ⌝ }
+    ensures { λ _. ⌜ now (image .exit) ≡ setBlock (now (image .entry)) p (blockOf (now (key .entry)) id recording p kind 0 []) ⌝ }
 {
     let at = p * BLOCK_BYTES;
     block::seal_block(

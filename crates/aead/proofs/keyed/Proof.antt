@@ -8,7 +8,7 @@ use native.Mathlib.Omega.{arith}
 use lib.ListN.{length, replicate, length-replicate}
 use Rattle.sponge.specs.Blink.{put, after, Put}
 use Rattle.sponge.proofs.CallLaws.{put-leaves}
-use Rattle.sponge.proofs.Lengths.{after-length}
+use Rattle.sponge.proofs.Lengths.{length-after}
 use Rattle.aead.specs.Sealing.{keyed}
 use Rattle.aead.proofs.keyed.Statement.{statement}
 use Rattle.aead.proofs.keyed.Tie as tie
@@ -19,9 +19,9 @@ thrice : {r₁ r₂ r₃ : ℕ} {k n a v₁ v₂ v₃ : List ℕ} → Put 0x10 k
 unfolding keyed
 thrice {k = k} {n = n} {a = a} p q s hk hn ha =
     let e₁ = put-leaves p (length-replicate {A = ℕ} 64 0) (omega arith) in
-    let l₁ = ap length e₁ ∙ after-length put 0x10 (replicate 64 0) k in
+    let l₁ = ap length e₁ ∙ length-after put 0x10 (replicate 64 0) k in
     let e₂ = put-leaves q l₁ (omega arith) in
-    let l₂ = ap length e₂ ∙ after-length put 0x20 _ n in
+    let l₂ = ap length e₂ ∙ length-after put 0x20 _ n in
     put-leaves s l₂ ha ∙ ap (λ (v : List ℕ). after put 0x40 v a) (e₂ ∙ ap (λ (v : List ℕ). after put 0x20 v n) e₁)
 
 slice-aggregate-put : tie.Need-slice-aggregate-put

@@ -3,7 +3,7 @@
 use mathlib.Core.Path.{ap, _∙_}
 use lib.ListN.{length}
 use Rattle.laws.proofs.ChooseLaws.{passed, failed}
-use Rattle.aead.proofs.Lengths.{sizes, limits, keyed-length}
+use Rattle.aead.proofs.Lengths.{sizes, limits, length-keyed}
 use Rattle.aead.proofs.Answers.{seal-2, seal-9, seal-0}
 use borrow.Author.Needs.{needs}
 use Rattle.aead.proofs.seal.Statement.{statement}
@@ -32,7 +32,7 @@ seal-from-requires c κs =
     let i = c .before .before in
     let s = sizes _ _ _ _ (passed (i .before .before .before .are-sized .ensures) (i .before .before .if1 .left)) in
     let l = limits _ _ (passed (i .before .are-limited .ensures) (i .if2 .left)) in
-    (ap length (c .before .keyed .ensures) ∙ keyed-length _ _ _, l .short-most, s .more16)
+    (ap length (c .before .keyed .ensures) ∙ length-keyed _ _ _, l .short-most, s .more16)
 
 same-length : tie.Need-same-length
 same-length c = search needs

@@ -3,7 +3,7 @@
 use borrow.Author.Needs.{needs}
 use borrow.Author.Tests.{eq-eqb, ne-eqb}
 use mathlib.Core.Path.{sym, _∙_}
-use Rattle.block.specs.Calls.{headSays}
+use Rattle.block.specs.Steps.{headSays}
 use Rattle.block.proofs.said.Statement.{statement}
 use Rattle.block.proofs.said.Tie as tie
 

@@ -6,7 +6,7 @@ use mathlib.Core.Logic.{⊎-elim}
 use Prim.Native.Nat.{ℕ, _-_, _≤_, _<_, min}
 use native.Mathlib.Omega.{arith}
 use lib.ListN.{length, getD, length-set, List·getD-eq-default}
-use Rattle.laws.specs.Lists.{front}
+use Rattle.laws.specs.Loops.{front}
 use Rattle.laws.specs.Xor.{xor, xorInto}
 use Rattle.laws.proofs.ListLaws.{front-none, front-seen, front-more, front-all, front-rest}
 use Rattle.laws.proofs.OrderLaws.{lt-or-ge}

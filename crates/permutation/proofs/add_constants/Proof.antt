@@ -7,7 +7,7 @@ use native.Mathlib.Omega.{arith}
 use borrow.Author.Needs.{needs}
 use borrow.Author.Tests.{lt-ltb}
 use lib.ListN.{length, getD, length-set}
-use Rattle.laws.specs.Lists.{front}
+use Rattle.laws.specs.Loops.{front}
 use Rattle.laws.specs.Xor.{xor}
 use Rattle.laws.proofs.ListLaws.{front-none, front-seen, front-more}
 use Rattle.laws.proofs.XorLaws.{xor-zero}

@@ -2,7 +2,7 @@
 -- Assumes nothing.
 use mathlib.Core.Path.{_∙_}
 use Rattle.laws.specs.Xor.{xor}
-use Rattle.permutation.specs.Permutation.{first}
+use Rattle.permutation.specs.Permutation.{firstRow}
 use Rattle.permutation.proofs.Mixing.{three, column-by-bits}
 use borrow.Author.Needs.{needs}
 use Rattle.permutation.proofs.cell.Statement.{statement}
@@ -24,7 +24,7 @@ returns : tie.Need-returns
 unfolding xor
 returns c =
     let x = c .before .before .before .args in
-    rw (c .double3 .ensures, c .before .double2 .ensures, c .before .before .double .ensures) (three (x .a) (x .b) (x .c) (x .d) (x .e) (x .f) (x .g) (x .h) ∙ column-by-bits first _ 7)
+    rw (c .double3 .ensures, c .before .double2 .ensures, c .before .before .double .ensures) (three (x .a) (x .b) (x .c) (x .d) (x .e) (x .f) (x .g) (x .h) ∙ column-by-bits firstRow _ 7)
 
 pub cell-spec : {M : Type 1} → statement M
 cell-spec = tie.close (tie.spec double-requires double-requires-2 double-requires-3 returns)

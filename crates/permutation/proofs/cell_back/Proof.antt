@@ -2,7 +2,7 @@
 -- Assumes nothing.
 use mathlib.Core.Path.{_∙_}
 use Rattle.laws.specs.Xor.{xor}
-use Rattle.permutation.specs.Permutation.{first⁻}
+use Rattle.permutation.specs.Permutation.{firstRow⁻}
 use Rattle.permutation.proofs.Mixing.{seven, column-by-bits}
 use borrow.Author.Needs.{needs}
 use Rattle.permutation.proofs.cell_back.Statement.{statement}
@@ -45,7 +45,7 @@ returns c =
       c .before .before .before .before .before .double2 .ensures,
       c .before .before .before .before .before .before .double .ensures,
     )
-    (seven (x .a) (x .b) (x .c) (x .d) (x .e) (x .f) (x .g) (x .h) ∙ column-by-bits first⁻ _ 7)
+    (seven (x .a) (x .b) (x .c) (x .d) (x .e) (x .f) (x .g) (x .h) ∙ column-by-bits firstRow⁻ _ 7)
 
 pub cell-back-spec : {M : Type 1} → statement M
 cell-back-spec =

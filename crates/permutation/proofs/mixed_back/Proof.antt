@@ -4,10 +4,10 @@ use native.Mathlib.Omega.{arith}
 use mathlib.Core.Path.{_≡_, refl, sym, ap, _∙_}
 use Prim.Native.Nat.{_-_, _*_, _≤_}
 use lib.ListN.{length}
-use Rattle.laws.specs.Lists.{front}
-use Rattle.laws.proofs.ListLaws.{front-none, listed-length}
+use Rattle.laws.specs.Loops.{front}
+use Rattle.laws.proofs.ListLaws.{front-none, length-listed}
 use Rattle.permutation.proofs.Mixing.{mixedByte, rows-more, rows-all}
-use Rattle.permutation.specs.Permutation.{mix⁻, first⁻}
+use Rattle.permutation.specs.Permutation.{mix⁻, firstRow⁻}
 use Rattle.permutation.proofs.mixed_back.Statement.{statement}
 use Rattle.permutation.proofs.mixed_back.Tie as tie
 use Rattle.permutation.proofs.mixed_back.Reads as reads
@@ -16,7 +16,7 @@ use Rattle.permutation.proofs.mixed_row_back.Reads as mixed-row-back-re
 use Rattle.permutation.proofs.put_row.Reads as put-row-reads
 
 abbrev Inv-loop : tie.InvT-loop
-Inv-loop from to₀ i₀ to i = (i ≤ 8) × (length to ≡ 64) × (length to₀ ≡ 64) × (to ≡ front (i * 8) (mixedByte first⁻ from) to₀)
+Inv-loop from to₀ i₀ to i = (i ≤ 8) × (length to ≡ 64) × (length to₀ ≡ 64) × (to ≡ front (i * 8) (mixedByte firstRow⁻ from) to₀)
 
 abbrev μ-loop : tie.MeasureT-loop
 μ-loop from to₀ i₀ to i = 8 - i
@@ -37,7 +37,7 @@ mul-put-row : tie.Need-mul-put-row Inv-loop μ-loop
 mul-put-row c = omega arith
 
 put-row-requires : tie.Need-put-row-requires Inv-loop μ-loop
-put-row-requires c κs = (ap length (c .before .mixed-row-back .ensures) ∙ listed-length 0 8 _, omega arith)
+put-row-requires c κs = (ap length (c .before .mixed-row-back .ensures) ∙ length-listed 0 8 _, omega arith)
 
 add-i : tie.Need-add-i Inv-loop μ-loop
 add-i c = omega arith
@@ -52,12 +52,12 @@ loop-again c =
       omega arith,
       put .kept .0 ∙ at .loop .inv .1,
       refl,
-      put .ensures ∙ rows-more first⁻ _ (at .loop .i) _ _ _ (at .loop .inv .3) (c .before .before .before .mixed-row-back .ensures),
+      put .ensures ∙ rows-more firstRow⁻ _ (at .loop .i) _ _ _ (at .loop .inv .3) (c .before .before .before .mixed-row-back .ensures),
     )
 
 returns : tie.Need-returns Inv-loop μ-loop
 unfolding mix⁻
-returns c = rows-all first⁻ _ _ _ _ (c .before .loop .inv .3) (c .before .loop .inv .2) (omega arith)
+returns c = rows-all firstRow⁻ _ _ _ _ (c .before .loop .inv .3) (c .before .loop .inv .2) (omega arith)
 
 pub mixed-back-spec : {M : Type 1} → statement M
 mixed-back-spec =

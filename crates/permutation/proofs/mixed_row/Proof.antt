@@ -4,7 +4,8 @@ use mathlib.Core.Path.{sym, ap}
 use Prim.Native.Nat.{ℕ}
 use native.Mathlib.Nat.{add-zero}
 use lib.ListN.{getD}
-use Rattle.permutation.specs.Permutation.{first, rowAt}
+use Rattle.permutation.specs.Permutation.{firstRow}
+use Rattle.permutation.specs.Rows.{rowAt}
 use Rattle.permutation.proofs.Mixing.{row-is}
 use borrow.Author.Needs.{needs}
 use Rattle.permutation.proofs.mixed_row.Statement.{statement}
@@ -86,7 +87,7 @@ returns : tie.Need-returns
 unfolding rowAt
 returns c =
     let at = c .before .before .before .before .before .before .before .before .before .before .before .before .before .before .before .before in
-    row-is first (rowAt (at .args .from .now) (at .args .i)) _ _ _ _ _ _ _ _ _
+    row-is firstRow (rowAt (at .args .from .now) (at .args .i)) _ _ _ _ _ _ _ _ _
     (ap (λ (n : ℕ). getD (at .args .from .now) n 0) (sym (add-zero (at .args .i))))
     (c .before .before .before .before .before .before .before .cell .ensures) (c .before .before .before .before .before .before .cell2 .ensures)
     (c .before .before .before .before .before .cell3 .ensures) (c .before .before .before .before .cell4 .ensures)

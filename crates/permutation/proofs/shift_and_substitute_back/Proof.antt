@@ -5,7 +5,7 @@ use mathlib.Core.Path.{_≡_, ap, _∙_}
 use mathlib.Core.List.{List}
 use Prim.Native.Nat.{ℕ, _-_, _≤_}
 use lib.ListN.{length, getD, length-set}
-use Rattle.laws.specs.Lists.{front}
+use Rattle.laws.specs.Loops.{front}
 use Rattle.laws.proofs.ListLaws.{front-none, front-more}
 use Rattle.permutation.specs.Table.{S⁻}
 use Rattle.permutation.specs.Permutation.{target}

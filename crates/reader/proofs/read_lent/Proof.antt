@@ -7,7 +7,7 @@ use native.Mathlib.Omega.{arith}
 use Rattle.block.specs.declared.Seen.the-variants as seen
 use Rattle.block.specs.Image.{view, capacityOf}
 use Rattle.reader.specs.Reading.{readAnswer}
-use Rattle.reader.proofs.ViewLaws.{view-sized}
+use Rattle.block.proofs.ViewLaws.{view-sized}
 use Rattle.reader.proofs.GatherLaws.{Begun, begun-shut, begun-more, begun-mark, begun-end, begun-last, begun-first}
 use Rattle.reader.proofs.read_lent.Statement.{statement}
 use Rattle.reader.proofs.read_lent.Tie as tie

@@ -11,7 +11,7 @@ use lib.ListN.{length, take, drop}
 use Rattle.block.specs.declared.Seen.the-variants as seen
 use Rattle.block.specs.Image.{view, capacityOf}
 use Rattle.reader.specs.Walk.{Answer, Cut, gather}
-use Rattle.reader.proofs.ViewLaws.{view-sized}
+use Rattle.block.proofs.ViewLaws.{view-sized}
 use Rattle.reader.proofs.GatherLaws.{Turn, turn-shut, turn-first, turn-mark, turn-end, turn-last, turn-more, turn-used, turn-back, gather-end, nothing-kept, rest-room}
 use Rattle.reader.proofs.read_rest.Statement.{statement}
 use Rattle.reader.proofs.read_rest.Tie as tie

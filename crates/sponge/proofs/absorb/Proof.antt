@@ -6,7 +6,7 @@ use native.Mathlib.Omega.{arith}
 use lib.ListN.{length}
 use Rattle.sponge.specs.Blink.{put, kept, met}
 use Rattle.sponge.proofs.Steps.{met-none, met-more, met-last, group-is}
-use Rattle.sponge.proofs.Lengths.{group-length}
+use Rattle.sponge.proofs.Lengths.{length-group}
 use Rattle.sponge.proofs.absorb.Statement.{statement}
 use Rattle.sponge.proofs.absorb.Tie as tie
 
@@ -98,7 +98,7 @@ returns c =
     let m = at .before .last .ensures in
     let h : at .loop .k ≡ k = omega arith in
     let g = group-is (a .bytes .now) k (length (a .bytes .now) - k * 32) (omega arith) in
-    met-last put (a .domain) (a .state .now) (a .bytes .now) k _ _ _ _ (at .loop .inv .2 ∙ ap (met put (a .domain) (a .state .now) (a .bytes .now)) h) g (d .add2 .ensures) _ (omega (arith, ap length g, group-length (a .bytes .now) k)) m (b .close .ensures)
+    met-last put (a .domain) (a .state .now) (a .bytes .now) k _ _ _ _ (at .loop .inv .2 ∙ ap (met put (a .domain) (a .state .now) (a .bytes .now)) h) g (d .add2 .ensures) _ (omega (arith, ap length g, length-group (a .bytes .now) k)) m (b .close .ensures)
 
 pub absorb-spec : {M : Type 1} → statement M
 absorb-spec =

@@ -5,8 +5,8 @@ use Rattle.sponge.proofs.Answers.{turned}
 use Rattle.sponge.proofs.between.Statement.{statement}
 use Rattle.sponge.proofs.between.Tie as tie
 
-mark-requires : tie.Need-mark-requires
-mark-requires c κs = omega arith
+into-byte-requires : tie.Need-into-byte-requires
+into-byte-requires c κs = omega arith
 
 permute-requires : tie.Need-permute-requires
 permute-requires c κs = tt
@@ -15,7 +15,7 @@ same-length : tie.Need-same-length
 same-length c = omega arith
 
 returns : tie.Need-returns
-returns c = turned (c .before .before .permute .ensures) (c .before .before .before .before .before .before .mark .ensures) (omega arith)
+returns c = turned (c .before .before .permute .ensures) (c .before .before .before .before .before .before .into-byte .ensures) (omega arith)
 
 pub between-spec : {M : Type 1} → statement M
-between-spec = tie.close (tie.spec mark-requires permute-requires same-length returns)
+between-spec = tie.close (tie.spec into-byte-requires permute-requires same-length returns)

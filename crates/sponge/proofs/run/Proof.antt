@@ -8,7 +8,7 @@ use lib.ListN.{length, drop}
 use Rattle.sponge.specs.Blink.{met, gave}
 use Rattle.sponge.specs.Ways.{opOf}
 use Rattle.sponge.proofs.Steps.{met-none, gave-none, met-more, met-last, part-is, gave-more, gave-last, way-gives}
-use Rattle.sponge.proofs.Lengths.{group-length}
+use Rattle.sponge.proofs.Lengths.{length-group}
 use Rattle.sponge.proofs.run.Statement.{statement}
 use Rattle.sponge.proofs.run.Tie as tie
 
@@ -122,7 +122,7 @@ returns c =
     let i : k * 32 ≤ length s = omega arith in
     let g = part-is op t (a .domain) v s k _ (at .loop .io) full i n so in
     record {
-      state = met-last op (a .domain) v s k _ _ _ _ here g (w .work2 .ensures .state) _ (omega (arith, ap length g, group-length s k)) m (b .close .ensures);
+      state = met-last op (a .domain) v s k _ _ _ _ here g (w .work2 .ensures .state) _ (omega (arith, ap length g, length-group s k)) m (b .close .ensures);
       bytes = gave-last op (a .domain) v s k _ m (gave-more op t (a .domain) v s k _ (at .loop .io) full i n so _ _ _ here g (w .work2 .ensures .bytes));
     }
 

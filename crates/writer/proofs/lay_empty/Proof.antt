@@ -1,7 +1,7 @@
 -- `writer::lay_empty` meets its contract: the image from the block on is lent to the sealer.
 -- Assumes nothing.
 use native.Mathlib.Omega.{arith}
-use Rattle.writer.proofs.Lent.{put-part}
+use Rattle.writer.proofs.Lent.{lent-part}
 use borrow.Author.Needs.{needs}
 use Rattle.writer.proofs.lay_empty.Statement.{statement}
 use Rattle.writer.proofs.lay_empty.Tie as tie
@@ -34,7 +34,7 @@ returns : tie.Need-returns
 returns c =
     let s = c .before .before in
     let a = s .before .before .before .before .before .args in
-    put-part (a .image .now) _ (omega arith) (omega arith) (omega arith) (omega arith) (omega arith) (omega arith) (s .seal-block .ensures)
+    lent-part (a .image .now) _ (omega arith) (omega arith) (omega arith) (omega arith) (omega arith) (omega arith) (s .seal-block .ensures)
 
 pub lay-empty-spec : {M : Type 1} → statement M
 lay-empty-spec =

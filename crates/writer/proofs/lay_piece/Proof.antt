@@ -9,9 +9,9 @@ use native.Mathlib.Omega.{arith}
 use lib.Dec.{eqb}
 use lib.ListN.{length, drop, length-take}
 use Rattle.laws.specs.Choose.{pick}
-use Rattle.block.specs.Image.{put}
+use Rattle.block.specs.Image.{setBlock}
 use Rattle.writer.proofs.Pieces.{Cut, cut, kind-lawful, seals-cut}
-use Rattle.writer.proofs.Lent.{put-part}
+use Rattle.writer.proofs.Lent.{lent-part}
 use borrow.Author.Needs.{needs}
 use Rattle.writer.proofs.lay_piece.Statement.{statement}
 use Rattle.writer.proofs.lay_piece.Tie as tie
@@ -88,8 +88,8 @@ returns c =
     let k = cut-is (j .before) in
     let n = length-take (j .before .if1 .to - a .i * 488) (drop (a .i * 488) (a .bytes .now)) in
     let l = kind-lawful (eqb (a .i) 0) in
-    put-part (a .image .now) ((a .p + a .i) * 512) (omega arith) (r .0) (omega arith) (omega arith) (omega (arith, kind-is j, l .0)) (omega (arith, kind-is j, l .1)) (s .seal-block .ensures)
-    ∙ ap (put (a .image .now) (a .p + a .i))
+    lent-part (a .image .now) ((a .p + a .i) * 512) (omega arith) (r .0) (omega arith) (omega arith) (omega (arith, kind-is j, l .0)) (omega (arith, kind-is j, l .1)) (s .seal-block .ensures)
+    ∙ ap (setBlock (a .image .now) (a .p + a .i))
     (seals-cut (a .key .now) (a .id) (a .recording) (a .p + a .i) (a .bytes .now) (a .k) (a .i) (j .before .if1 .to) (j .if2 .kind) (r .4) (r .3) (to-is (j .before)) (kind-is j))
 
 pub lay-piece-spec : {M : Type 1} → statement M

@@ -11,13 +11,12 @@ use lib.ListN.{length, getD, take, drop, length-drop}
 use lib.Seq.{length-take-le}
 use Rattle.laws.specs.Choose.{pick}
 use Rattle.laws.proofs.ChooseLaws.{both-right}
-use Rattle.sponge.specs.Blink.{dec}
-use Rattle.sponge.proofs.Lengths.{out-length}
-use Rattle.aead.specs.Sealing.{keyed, cipherOf, openedFrom, opened, fits}
-use Rattle.aead.proofs.Lengths.{keyed-length}
+use Rattle.aead.specs.Sealing.{opened, fits}
+use Rattle.aead.proofs.Lengths.{length-opened}
 use Rattle.block.specs.Content.{Content, shut, more, head, first, mark, eod}
-use Rattle.block.specs.Format.{nonceAt, number4, number2, allZero, usedOk, contentOf, openBlock}
+use Rattle.block.specs.Format.{nonceAt, number4, number2, usedOk, contentOf, openBlock}
 use Rattle.block.specs.Image.{blockAt, view}
+use Rattle.block.proofs.ContentLaws.{content-cases}
 
 abbrev pub SizedBy : Bool → List ℕ → Type 0
 SizedBy true b = length b ≤ 488
@@ -34,10 +33,6 @@ Sized (head (first l b)) = SizedBy l b
 Sized (head mark) = Unit {0}
 Sized (head eod) = Unit {0}
 
-opened-length : (key n a t : List ℕ) → length (opened key n a t) ≡ length t - 16
-unfolding opened openedFrom cipherOf
-opened-length key n a t = out-length dec tt 0x50 (keyed key n a) (cipherOf t) (keyed-length key n a) ∙ length-take-le (length t - 16) t (omega arith)
-
 module _ (last used : ℕ) (m : List ℕ) (h : length m ≡ 488) where
   used-sized : usedOk last used ≡ true → SizedBy (eqb last 1) (take used m)
   unfolding usedOk
@@ -53,21 +48,7 @@ module _ (last used : ℕ) (m : List ℕ) (h : length m ≡ 488) where
       go false a false b e = let z : _≡_ {A = ℕ} 0 1 = cc in absurd (omega arith)
 
   content-sized : (kind : ℕ) → Sized (contentOf kind last used m)
-  unfolding contentOf
-  content-sized kind =
-      go (allZero (drop used m)) (eqb kind 1) (usedOk last used) (eqb kind 2) (eqb last 0 && eqb used 0) (eqb kind 3) (eqb kind 4) used-sized
-    where
-      go : (t k₁ u k₂ d k₃ k₄ : Bool) → (u ≡ true → SizedBy (eqb last 1) (take used m))
-          → Sized (pick t (pick k₁ (pick u (head (first (eqb last 1) (take used m))) shut) (pick k₂ (pick u (more (eqb last 1) (take used m)) shut) (pick d (pick k₃ (head mark) (pick k₄ (head eod) shut)) shut))) shut)
-      go false k₁ u k₂ d k₃ k₄ a = tt
-      go true true true k₂ d k₃ k₄ a = a refl
-      go true true false k₂ d k₃ k₄ a = tt
-      go true false true true d k₃ k₄ a = a refl
-      go true false false true d k₃ k₄ a = tt
-      go true false u false true true k₄ a = tt
-      go true false u false true false true a = tt
-      go true false u false true false false a = tt
-      go true false u false false k₃ k₄ a = tt
+  content-sized kind = content-cases Sized kind last used m tt (λ e. (used-sized e, used-sized e)) (tt, tt)
 
 block-sized : (key : List ℕ) (id recording p : ℕ) (b : List ℕ) → length b ≡ 512 → Sized (openBlock key id recording p b)
 unfolding openBlock
@@ -80,7 +61,7 @@ block-sized key id recording p b h = go (eqb (number4 b 0) p && fits key n (take
     m = opened key n (take 8 b) (drop 8 b)
 
     size : length m ≡ 488
-    size = opened-length key n (take 8 b) (drop 8 b) ∙ omega (arith, length-drop 8 b)
+    size = length-opened key n (take 8 b) (drop 8 b) ∙ omega (arith, length-drop 8 b)
 
     go : (t : Bool) → Sized (pick t (contentOf (getD b 4 0) (getD b 5 0) (number2 b 6) m) shut)
     go true = content-sized (getD b 5 0) (number2 b 6) m size (getD b 4 0)

@@ -1,11 +1,11 @@
--- `sponge::mark` meets its contract: the definition, unfolded.
+-- `sponge::into_byte` meets its contract: the definition, unfolded.
 -- Assumes nothing.
 use mathlib.Core.Path.{refl}
 use borrow.Author.Needs.{needs}
 use Rattle.laws.specs.Xor.{xor}
 use Rattle.sponge.specs.Blink.{into}
-use Rattle.sponge.proofs.mark.Statement.{statement}
-use Rattle.sponge.proofs.mark.Tie as tie
+use Rattle.sponge.proofs.into_byte.Statement.{statement}
+use Rattle.sponge.proofs.into_byte.Tie as tie
 
 slice-read-state : tie.Need-slice-read-state
 slice-read-state c = search needs
@@ -20,5 +20,5 @@ returns : tie.Need-returns
 unfolding into xor
 returns c = refl
 
-pub mark-spec : {M : Type 1} → statement M
-mark-spec = tie.close (tie.spec slice-read-state slice-write-state same-length returns)
+pub into-byte-spec : {M : Type 1} → statement M
+into-byte-spec = tie.close (tie.spec slice-read-state slice-write-state same-length returns)
