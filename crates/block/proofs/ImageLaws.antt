@@ -2,6 +2,7 @@
 -- Assumes nothing.
 use mathlib.Core.Path.{_≡_, refl, sym, ap, _∙_}
 use mathlib.Core.Logic.{_≢_, _⊎_, inl, inr, ⊎-elim}
+use mathlib.Core.Bool.{Bool, true, false}
 use mathlib.Core.List.{List, [], _∷_, _++_}
 use Prim.Native.Nat.{ℕ, zero, suc, _+_, _-_, _*_, _≤_, _<_}
 use native.Mathlib.Nat.{not-suc-le-zero, add-zero, add-suc, suc-add}
@@ -69,10 +70,19 @@ block-zeros c p h =
     ∙ take-zeros 512 (512 * c - (512 * p + 512))
 
 -- ---- several blocks, from p on
--- the view shows the contents bs at p and on
+-- a place where b was written, and where o opens now: b, but what P says where the place is spoiled
+abbrev pub Now : (Content → Type 0) → Bool → Content → Content → Type 0
+Now P true o b = P o
+Now P false o b = o ≡ b
+
+-- the view shows the contents bs at p and on, but at spoiled places what opens there satisfies P
+abbrev pub ShowsBut : (Content → Type 0) → (ℕ → Bool) → View → ℕ → List Content → Type 0
+ShowsBut P sp v p [] = Unit {0}
+ShowsBut P sp v p (b ∷ bs) = Now P (sp p) (v p) b × ShowsBut P sp v (suc p) bs
+
+-- with no place spoiled
 abbrev pub Stands : View → ℕ → List Content → Type 0
-Stands v p [] = Unit {0}
-Stands v p (b ∷ bs) = (v p ≡ b) × Stands v (suc p) bs
+Stands v p bs = ShowsBut (λ o. ⊥) (λ q. false) v p bs
 
 abbrev pub AllLawful : ℕ → List Content → Type 0
 AllLawful p [] = Unit {0}

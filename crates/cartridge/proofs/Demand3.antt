@@ -2,73 +2,63 @@
 -- are unspoiled, once, in order, as written, and nothing else, in no more reads than blocks.
 -- Assumes nothing.
 use mathlib.Core.Path.{_≡_, refl, sym, ap, _∙_, subst}
-use mathlib.Core.Logic.{_≢_}
 use mathlib.Core.Bool.{Bool, true, false, false≢true}
 use mathlib.Core.List.{List, [], _∷_}
-use Prim.Native.Nat.{ℕ, zero, suc, _+_, _<_}
+use Prim.Native.Nat.{ℕ, zero, suc, _+_, _≤_}
 use native.Mathlib.Omega.{arith}
 use borrow.Author.Tests.{not-true, not-false}
-use lib.ListN.{length}
+use Rattle.laws.specs.Choose.{pick}
 use Rattle.laws.specs.Lists.{same}
 use Rattle.laws.proofs.SameLaws.{same-true, same-refl}
 use Rattle.block.specs.Content.{Shut}
 use Rattle.block.specs.Format.{openBlock}
 use Rattle.block.specs.Image.{blockAt, capacityOf, view}
-use Rattle.writer.specs.declared.WriterState.{WriterState}
-use Rattle.writer.specs.declared.Reply.the-variants.{Plain}
-use Rattle.writer.specs.Items.{Item, size}
-use Rattle.writer.specs.Writing.{start}
+use Rattle.writer.specs.Items.{Item, size, sizes}
 use Rattle.reader.specs.Walk.{walk}
-use Rattle.cartridge.specs.Chain.{Call, chain, accepted, AllCallBytes}
+use Rattle.cartridge.specs.Chain.{Run, left, items, shown, Proper}
 use Rattle.cartridge.specs.Handed.{Handed, hand, handed}
-use Rattle.cartridge.specs.Recovered.{spoiled, whole, intact, Recovered}
-use Rattle.cartridge.proofs.Laid.{sizes}
+use Rattle.cartridge.specs.Recovered.{spoiled, whole, intact, Damaged, Recovered}
 use Rattle.cartridge.proofs.Survive.{Spoiled, survive}
-use Rattle.cartridge.proofs.Made.{Made, made-chain, made-start}
+use Rattle.cartridge.proofs.Made.{Made, made}
 
--- ---- damage to an image's bytes, as its views show it
-damage : (key : List ℕ) (id recording : ℕ) (was now : List ℕ)
-    → ((p : ℕ) → p < capacityOf now → blockAt now p ≢ blockAt was p → Shut (view key id recording now p))
-    → Spoiled Shut (capacityOf now) (spoiled was now) (view key id recording was) (view key id recording now)
+-- damage to an image's bytes, as its views show it
+damage : (r : Run) (now : List ℕ) → Damaged r now
+    → Spoiled Shut (capacityOf now) (spoiled (left r .image) now) (shown (r .setup) (left r .image)) (shown (r .setup) now)
 unfolding spoiled view
-damage key id recording was now d =
+damage r now d =
+    let was = left r .image in
     record {
-      kept = λ p h t. ap (λ (b : List ℕ). openBlock key id recording p b) (same-true (blockAt now p) (blockAt was p) (not-false (same (blockAt now p) (blockAt was p)) t));
+      kept = λ p h t.
+          ap (openBlock (r .setup .key) (r .setup .id) (r .setup .recording) p)
+          (same-true (blockAt now p) (blockAt was p) (not-false (same (blockAt now p) (blockAt was p)) t));
       lost = λ p h t.
-          d p h (λ q.
-          false≢true (sym (not-true (same (blockAt now p) (blockAt was p)) t) ∙ subst (λ (y : List ℕ). same (blockAt now p) y ≡ true) q (same-refl (blockAt now p))));
+          d .shuts p h
+          (λ q. false≢true
+          (sym (not-true (same (blockAt now p) (blockAt was p)) t)
+          ∙ subst (λ (y : List ℕ). same (blockAt now p) y ≡ true) q (same-refl (blockAt now p))));
     }
 
--- from what a chain leaves, however it came about
-recovered : (key : List ℕ) (id recording c : ℕ) (s : WriterState) (was : List ℕ) (is : List Item) → Made key id recording c s was is → s .closed ≡ true
-    → (now : List ℕ) → length now ≡ length was
-    → ((p : ℕ) → p < capacityOf now → blockAt now p ≢ blockAt was p → Shut (view key id recording now p))
-    → Recovered key id recording was now is
+-- for every run, closed or still open
+pub recovered : (r : Run) → Proper r → (now : List ℕ) → Damaged r now → Recovered r now
 unfolding capacityOf
-recovered key id recording c s was is m k now l d =
-    let x = survive (capacityOf now) (spoiled was now) (view key id recording was) (view key id recording now) is (m .sound) (rw k at (m .stands))
-    (rw (at, cap) at (m .blank)) (omega (arith, cap)) (damage key id recording was now d) in
+recovered r p now d =
+    let m = made r p in
+    let s = left r .state in
+    let l = d .long in
+    let e = m .long in
+    let cap : s .capacity ≡ capacityOf now = omega arith in
+    let x = survive (capacityOf now) (spoiled (left r .image) now) (shown (r .setup) (left r .image)) (shown (r .setup) now) (items r) (s .closed)
+    (m .all-sound) (m .stands) (rw (m .place, cap) at (m .blank)) (at-most (items r) (s .closed) (m .room) cap) (damage r now d) in
     record { gives = x .0; short = x .1 }
   where
-    at : s .position ≡ sizes is + 1
-    at = rw k at (m .place)
-
-    cap : c ≡ capacityOf now
-    cap = omega arith
+    at-most : (is : List Item) (t : Bool) {c n : ℕ} → sizes is + 1 ≤ c → c ≡ n → sizes is + pick t 1 0 ≤ n
+    at-most is true h e = omega arith
+    at-most is false h e = omega arith
 
 -- for every key, id, recording, zone, image to start from and chain that ends closed, and for every image of the same length in which each
 -- block has its bytes or does not open at its place
-pub demand-3 : (key : List ℕ) (id recording e : ℕ) (fresh : List ℕ) (calls : List Call) → AllCallBytes calls → start id recording e fresh .reply ≡ Plain
-    → let s : WriterState = start id recording e fresh .state in
-    let z : List ℕ = start id recording e fresh .image in
-    let was : List ℕ = chain key s z calls .image in
-    chain key s z calls .state .closed ≡ true
-    → (now : List ℕ) → length now ≡ length was
-    → ((p : ℕ) → p < capacityOf now → blockAt now p ≢ blockAt was p → Shut (view key id recording now p))
-    → Recovered key id recording was now (accepted key s z calls)
-demand-3 key id recording e fresh calls b h k now l d =
-    let m = made-chain calls key id recording (capacityOf fresh) (start id recording e fresh .state) (start id recording e fresh .image) [] (made-start key id recording e fresh h) b in
-    recovered key id recording (capacityOf fresh) _ _ _ m k now l d
+pub demand-3 : (r : Run) → Proper r → left r .state .closed ≡ true → (now : List ℕ) → Damaged r now → Recovered r now
+demand-3 r p k now d = recovered r p now d
 
 -- ---- the tail of the reel: with no damage all accepted items come back, none is lost
 all-whole : (n : ℕ) (sp : ℕ → Bool) (s : ℕ) → ((p : ℕ) → sp p ≡ false) → whole sp s n ≡ true
@@ -88,13 +78,8 @@ nothing-spoiled : (was : List ℕ) (p : ℕ) → spoiled was was p ≡ false
 unfolding spoiled
 nothing-spoiled was p = rw (same-refl (blockAt was p))
 
-pub nothing-lost : (key : List ℕ) (id recording e : ℕ) (fresh : List ℕ) (calls : List Call) → AllCallBytes calls → start id recording e fresh .reply ≡ Plain
-    → let s : WriterState = start id recording e fresh .state in
-    let z : List ℕ = start id recording e fresh .image in
-    let was : List ℕ = chain key s z calls .image in
-    chain key s z calls .state .closed ≡ true
-    → handed (walk (view key id recording was) (capacityOf was)) ≡ placed 0 (accepted key s z calls)
-nothing-lost key id recording e fresh calls b h k =
-    let w = chain key (start id recording e fresh .state) (start id recording e fresh .image) calls .image in
-    demand-3 key id recording e fresh calls b h k w refl (λ p l n. absurd (n refl)) .gives
-    ∙ all-intact (accepted key (start id recording e fresh .state) (start id recording e fresh .image) calls) (spoiled w w) 0 (nothing-spoiled w)
+-- closed or still open: over the image as it stands a walk hands out what was accepted so far
+pub nothing-lost : (r : Run) → Proper r → handed (walk (shown (r .setup) (left r .image)) (capacityOf (left r .image))) ≡ placed 0 (items r)
+nothing-lost r p =
+    let w = left r .image in
+    recovered r p w (record { long = refl; shuts = λ q l n. absurd (n refl) }) .gives ∙ all-intact (items r) (spoiled w w) 0 (nothing-spoiled w)

@@ -7,80 +7,26 @@ use Prim.Native.Nat.{ℕ, zero, suc, _+_, _-_, _*_, _≤_, _<_, min}
 use native.Mathlib.Nat.{add-suc, suc-add, add-zero, add-assoc}
 use native.Mathlib.Omega.{arith}
 use native.Mathlib.Numerals.{add-one}
-use lib.ListN.{length, drop, length-append, length-drop, take-append-drop}
+use lib.ListN.{length, length-append}
 use Rattle.laws.specs.Choose.{pick}
 use Rattle.block.specs.Content.{first, mark, eod, Content, shut, more, head, Shut}
 use Rattle.block.specs.Image.{View}
-use Rattle.writer.specs.Items.{Item, rec, fmark, blocksFor, size, pieces, isNil, following, recorded, blocks}
+use Rattle.block.proofs.ImageLaws.{Now, ShowsBut, Stands}
+use Rattle.writer.specs.Items.{Item, rec, fmark, size, pieces, isNil, following, recorded, blocks, layout, sizes}
+use Rattle.writer.proofs.Pieces.{length-blocks}
+use Rattle.writer.proofs.Ready.{Sound, AllSound}
+use Rattle.writer.proofs.InOrder.{length-layout, size-pos, flat, Cutting, cutting}
 use Rattle.reader.specs.Walk.{Told, Record, Mark, isEnd, Answer, answer, inside, gather, between, readAt}
 use Rattle.cartridge.specs.Handed.{Handed, hand, given}
 use Rattle.cartridge.specs.Recovered.{whole, intact}
 use Rattle.cartridge.proofs.Scan.{scan, Quiet, Gap, here, step, quiet-scan, scan-gap}
 
--- ---- what is laid, and what is seen of it
-abbrev pub Sound : Item → Type 0
-Sound (rec s) = (1 ≤ length s) × (length s ≤ 31232)
-Sound fmark = Unit {0}
-
-abbrev pub AllSound : List Item → Type 0
-AllSound [] = Unit {0}
-AllSound (i ∷ is) = Sound i × AllSound is
-
-abbrev pub layout : List Item → List Content
-layout [] = []
-layout (i ∷ is) = blocks i ++ layout is
-
--- a place where b was written, and where o opens now: b, but what P says where the place is spoiled
-abbrev pub Now : (Content → Type 0) → Bool → Content → Content → Type 0
-Now P true o b = P o
-Now P false o b = o ≡ b
-
--- the blocks bs open at s and on, but at spoiled places what opens there satisfies P
-abbrev pub Seen : (Content → Type 0) → (ℕ → Bool) → View → ℕ → List Content → Type 0
-Seen P sp v s [] = Unit {0}
-Seen P sp v s (b ∷ bs) = Now P (sp s) (v s) b × Seen P sp v (suc s) bs
-
--- the blocks bs open at s and on
-abbrev pub Stands : View → ℕ → List Content → Type 0
-Stands v s bs = Seen (λ o. ⊥) (λ p. false) v s bs
-
--- ---- payloads
-
-abbrev pub flat : List (List ℕ) → List ℕ
-flat [] = []
-flat (x ∷ xs) = x ++ flat xs
-
-pub flat-pieces : (k : ℕ) (s : List ℕ) → length s ≤ 488 * k → flat (pieces k s) ≡ s
-unfolding blocksFor pieces following recorded gather readAt
-flat-pieces zero [] h = refl
-flat-pieces zero (x ∷ s) h = absurd (omega arith)
-flat-pieces (suc k) s h = rw (flat-pieces k (drop 488 s) (simp length-drop (omega arith))) (take-append-drop 488 s)
-
-pub length-pieces : (k : ℕ) (s : List ℕ) → length (pieces k s) ≡ k
-unfolding blocksFor pieces following recorded gather readAt
-length-pieces zero s = refl
-length-pieces (suc k) s = ap suc (length-pieces k (drop 488 s))
-
-pub length-following : (xs : List (List ℕ)) → length (following xs) ≡ length xs
-unfolding blocksFor pieces following recorded gather readAt
-length-following [] = refl
-length-following (x ∷ xs) = ap suc (length-following xs)
-
-pub length-blocks : (i : Item) → length (blocks i) ≡ size i
-unfolding blocksFor pieces following recorded gather readAt
-length-blocks (rec s) = go (pieces (size (rec s)) s) ∙ length-pieces (size (rec s)) s
-  where
-    go : (xs : List (List ℕ)) → length (recorded xs) ≡ length xs
-    go [] = refl
-    go (x ∷ xs) = ap suc (length-following xs)
-length-blocks fmark = refl
-
 -- ---- a read of blocks that all open
 
-pub seen-whole : (P : Content → Type 0) (sp : ℕ → Bool) (v : View) (s : ℕ) (bs : List Content) → Seen P sp v s bs → whole sp s (length bs) ≡ true → Stands v s bs
-unfolding blocksFor pieces following recorded gather readAt
-seen-whole P sp v s [] h w = tt
-seen-whole P sp v s (b ∷ bs) h w = go (sp s) (h .0) w (λ k. seen-whole P sp v (suc s) bs (h .1) k)
+pub shows-whole : (P : Content → Type 0) (sp : ℕ → Bool) (v : View) (s : ℕ) (bs : List Content) → ShowsBut P sp v s bs → whole sp s (length bs) ≡ true → Stands v s bs
+unfolding following recorded gather readAt
+shows-whole P sp v s [] h w = tt
+shows-whole P sp v s (b ∷ bs) h w = go (sp s) (h .0) w (λ k. shows-whole P sp v (suc s) bs (h .1) k)
   where
     go : (t : Bool) → Now P t (v s) b → pick t false (whole sp (suc s) (length bs)) ≡ true → (whole sp (suc s) (length bs) ≡ true → Stands v (suc s) bs) → Stands v s (b ∷ bs)
     go true h w k = absurd (false≢true w)
@@ -88,7 +34,7 @@ seen-whole P sp v s (b ∷ bs) h w = go (sp s) (h .0) w (λ k. seen-whole P sp v
 
 pub gather-whole : (xs : List (List ℕ)) (x : List ℕ) (room : ℕ) (v : View) (q : ℕ) (acc : List ℕ) → Stands v q (following (x ∷ xs)) → length (x ∷ xs) ≤ room
     → gather room v q acc ≡ answer (Record (acc ++ flat (x ∷ xs))) (q + length (x ∷ xs))
-unfolding blocksFor pieces following recorded gather readAt
+unfolding following recorded gather readAt
 gather-whole xs x zero v q acc s h = absurd (omega arith)
 gather-whole [] x (suc room) v q acc s h = rw (s .0, append-nil, add-one)
 gather-whole (y ∷ ys) x (suc room) v q acc s h =
@@ -100,26 +46,13 @@ outcome fmark = Mark
 
 pub read-pieces : (x : List ℕ) (xs : List (List ℕ)) (v : View) (c s : ℕ) → Stands v s (recorded (x ∷ xs)) → s + length (x ∷ xs) ≤ c → length (x ∷ xs) ≤ 64
     → readAt v c s ≡ answer (Record (flat (x ∷ xs))) (s + length (x ∷ xs))
-unfolding blocksFor pieces following recorded gather readAt
+unfolding following recorded gather readAt
 read-pieces x [] v c s k h l = rw (k .0, append-nil, add-one)
 read-pieces x (y ∷ ys) v c s k h l = rw (k .0, gather-whole ys y (min (c - suc s) 63) v (suc s) x (k .1) (omega arith)) (simp (suc-add, add-suc))
 
--- A record's payloads: one at least and 64 at the most, and together they are the record.
-pub record Cutting (b : List ℕ) (xs : List (List ℕ)) : Type 0 where
-  pub joined : flat xs ≡ b
-  pub count : length xs ≡ size (rec b)
-  pub some : 1 ≤ length xs
-  pub few : length xs ≤ 64
-
-pub cutting : (b : List ℕ) → Sound (rec b) → Cutting b (pieces (size (rec b)) b)
-unfolding blocksFor pieces following recorded gather readAt
-cutting b d =
-    let l = length-pieces (size (rec b)) b in
-    record { joined = flat-pieces (size (rec b)) b (omega arith); count = l; some = omega arith; few = omega arith }
-
 -- An item whose blocks all open is read as it was written, whatever stands around it.
 pub read-whole : (i : Item) (v : View) (c s : ℕ) → Sound i → Stands v s (blocks i) → s + size i ≤ c → readAt v c s ≡ answer (outcome i) (s + size i)
-unfolding blocksFor pieces following recorded gather readAt
+unfolding following recorded gather readAt
 read-whole (rec b) v c s d k h = go (pieces (size (rec b)) b) (cutting b d) k
   where
     go : (xs : List (List ℕ)) → Cutting b xs → Stands v s (recorded xs) → readAt v c s ≡ answer (Record b) (s + size (rec b))
@@ -131,7 +64,7 @@ read-whole fmark v c s d k h = rw (k .0, add-one)
 -- ---- a read of an item of which a block is spoiled
 
 pub gather-noEnd : (room : ℕ) (v : View) (q : ℕ) (acc : List ℕ) → isEnd (gather room v q acc .told) ≡ false
-unfolding blocksFor pieces following recorded gather readAt
+unfolding following recorded gather readAt
 gather-noEnd zero v q acc = refl
 gather-noEnd (suc room) v q acc = go (v q) (λ a. gather-noEnd room v (suc q) a)
   where
@@ -149,7 +82,7 @@ isEod (head mark) = false
 isEod (head eod) = true
 
 pub read-noEnd : (v : View) (c p : ℕ) → isEod (v p) ≡ false → isEnd (readAt v c p .told) ≡ false
-unfolding blocksFor pieces following recorded gather readAt
+unfolding following recorded gather readAt
 read-noEnd v c p h = go (v p) h
   where
     go : (o : Content) → isEod o ≡ false → isEnd (between o v c p .told) ≡ false
@@ -161,33 +94,33 @@ read-noEnd v c p h = go (v p) h
     go (head eod) h = absurd (true≢false h)
 
 shut-inside : (o : Content) (p q : ℕ) (acc : List ℕ) (k : List ℕ → Answer) → Shut o → given p (inside o q acc k .told) ≡ []
-unfolding blocksFor pieces following recorded gather readAt
+unfolding following recorded gather readAt
 shut-inside shut p q acc k h = refl
 shut-inside (more l b) p q acc k h = absurd h
 shut-inside (head x) p q acc k h = absurd h
 
 shut-between : (o : Content) (v : View) (c p : ℕ) → Shut o → given p (between o v c p .told) ≡ []
-unfolding blocksFor pieces following recorded gather readAt
+unfolding following recorded gather readAt
 shut-between shut v c p h = refl
 shut-between (more l b) v c p h = absurd h
 shut-between (head x) v c p h = absurd h
 
 shut-quiet : (o : Content) → Shut o → Quiet o
-unfolding blocksFor pieces following recorded gather readAt
+unfolding following recorded gather readAt
 shut-quiet shut h = tt
 shut-quiet (more l b) h = absurd h
 shut-quiet (head x) h = absurd h
 
 shut-noEod : (o : Content) → Shut o → isEod o ≡ false
-unfolding blocksFor pieces following recorded gather readAt
+unfolding following recorded gather readAt
 shut-noEod shut h = refl
 shut-noEod (more l b) h = absurd h
 shut-noEod (head x) h = absurd h
 
--- the record's read from its sepick block on
-gather-broken : (xs : List (List ℕ)) (x : List ℕ) (room : ℕ) (sp : ℕ → Bool) (v : View) (p q : ℕ) (acc : List ℕ) → Seen Shut sp v q (following (x ∷ xs))
+-- the record's read from its second block on
+gather-broken : (xs : List (List ℕ)) (x : List ℕ) (room : ℕ) (sp : ℕ → Bool) (v : View) (p q : ℕ) (acc : List ℕ) → ShowsBut Shut sp v q (following (x ∷ xs))
     → whole sp q (length (x ∷ xs)) ≡ false → given p (gather room v q acc .told) ≡ []
-unfolding blocksFor pieces following recorded gather readAt
+unfolding following recorded gather readAt
 gather-broken xs x zero sp v p q acc s w = refl
 gather-broken [] x (suc room) sp v p q acc s w = go (sp q) (s .0) w
   where
@@ -201,17 +134,17 @@ gather-broken (y ∷ ys) x (suc room) sp v p q acc s w = go (sp q) (s .0) w (λ 
     go true h w k = shut-inside (v q) p q acc (λ a. gather room v (suc q) a) h
     go false h w k = rw h (k w)
 
-pub read-broken : (i : Item) (sp : ℕ → Bool) (v : View) (c s : ℕ) → Sound i → Seen Shut sp v s (blocks i) → whole sp s (size i) ≡ false → given s (readAt v c s .told) ≡ []
-unfolding blocksFor pieces following recorded gather readAt
+pub read-broken : (i : Item) (sp : ℕ → Bool) (v : View) (c s : ℕ) → Sound i → ShowsBut Shut sp v s (blocks i) → whole sp s (size i) ≡ false → given s (readAt v c s .told) ≡ []
+unfolding following recorded gather readAt
 read-broken (rec b) sp v c s d k w =
     let t = cutting b d in go (pieces (size (rec b)) b) (t .some) k (rw (t .count) w)
   where
-    at : (xs : List (List ℕ)) (x : List ℕ) (t : Bool) → Now Shut t (v s) (head (first (isNil xs) x)) → Seen Shut sp v (suc s) (following xs) → pick t false (whole sp (suc s) (length xs)) ≡ false → given s (readAt v c s .told) ≡ []
+    at : (xs : List (List ℕ)) (x : List ℕ) (t : Bool) → Now Shut t (v s) (head (first (isNil xs) x)) → ShowsBut Shut sp v (suc s) (following xs) → pick t false (whole sp (suc s) (length xs)) ≡ false → given s (readAt v c s .told) ≡ []
     at xs x true h k w = shut-between (v s) v c s h
     at [] x false h k w = absurd (true≢false w)
     at (y ∷ ys) x false h k w = rw h (gather-broken ys y (min (c - suc s) 63) sp v s (suc s) x k w)
 
-    go : (xs : List (List ℕ)) → 1 ≤ length xs → Seen Shut sp v s (recorded xs) → whole sp s (length xs) ≡ false → given s (readAt v c s .told) ≡ []
+    go : (xs : List (List ℕ)) → 1 ≤ length xs → ShowsBut Shut sp v s (recorded xs) → whole sp s (length xs) ≡ false → given s (readAt v c s .told) ≡ []
     go [] o k w = absurd (omega arith)
     go (x ∷ xs) o k w = at xs x (sp s) (k .0) (k .1) w
 read-broken fmark sp v c s d k w = go (sp s) (k .0) w
@@ -223,15 +156,15 @@ read-broken fmark sp v c s d k w = go (sp s) (k .0) w
 -- ---- the blocks of an item, spoiled or not
 
 -- Its first block is no end of data. P is what spoiled blocks satisfy.
-pub item-noEod : (P : Content → Type 0) → ((o : Content) → P o → isEod o ≡ false) → (i : Item) (sp : ℕ → Bool) (v : View) (s : ℕ) → Sound i → Seen P sp v s (blocks i) → isEod (v s) ≡ false
-unfolding blocksFor pieces following recorded gather readAt
+pub item-noEod : (P : Content → Type 0) → ((o : Content) → P o → isEod o ≡ false) → (i : Item) (sp : ℕ → Bool) (v : View) (s : ℕ) → Sound i → ShowsBut P sp v s (blocks i) → isEod (v s) ≡ false
+unfolding following recorded gather readAt
 item-noEod P n (rec b) sp v s d k = go (pieces (size (rec b)) b) (cutting b d .some) k
   where
     either : (t : Bool) (x : List ℕ) (l : Bool) → Now P t (v s) (head (first l x)) → isEod (v s) ≡ false
     either true x l h = n (v s) h
     either false x l h = rw h
 
-    go : (xs : List (List ℕ)) → 1 ≤ length xs → Seen P sp v s (recorded xs) → isEod (v s) ≡ false
+    go : (xs : List (List ℕ)) → 1 ≤ length xs → ShowsBut P sp v s (recorded xs) → isEod (v s) ≡ false
     go [] o k = absurd (omega arith)
     go (x ∷ xs) o k = either (sp s) x (isNil xs) (k .0)
 item-noEod P n fmark sp v s d k = either (sp s) (k .0)
@@ -240,8 +173,8 @@ item-noEod P n fmark sp v s d k = either (sp s) (k .0)
     either true h = n (v s) h
     either false h = rw h
 
-following-gap : (xs : List (List ℕ)) (sp : ℕ → Bool) (v : View) (q e : ℕ) → Seen Shut sp v q (following xs) → q + length xs ≡ e → Gap v e q
-unfolding blocksFor pieces following recorded gather readAt
+following-gap : (xs : List (List ℕ)) (sp : ℕ → Bool) (v : View) (q e : ℕ) → ShowsBut Shut sp v q (following xs) → q + length xs ≡ e → Gap v e q
+unfolding following recorded gather readAt
 following-gap [] sp v q e k h = let z : q ≡ e = omega arith in rw z here
 following-gap (x ∷ xs) sp v q e k h = step {q = q} (either (sp q) (k .0)) (following-gap xs sp v (suc q) e (k .1) (omega arith))
   where
@@ -249,44 +182,39 @@ following-gap (x ∷ xs) sp v q e k h = step {q = q} (either (sp q) (k .0)) (fol
     either true h = shut-quiet (v q) h
     either false h = rw h tt
 
-pub item-gap : (i : Item) (sp : ℕ → Bool) (v : View) (s : ℕ) → Sound i → Seen Shut sp v s (blocks i) → Gap v (s + size i) (suc s)
-unfolding blocksFor pieces following recorded gather readAt
+pub item-gap : (i : Item) (sp : ℕ → Bool) (v : View) (s : ℕ) → Sound i → ShowsBut Shut sp v s (blocks i) → Gap v (s + size i) (suc s)
+unfolding following recorded gather readAt
 item-gap (rec b) sp v s d k = go (pieces (size (rec b)) b) (cutting b d) k
   where
-    go : (xs : List (List ℕ)) → Cutting b xs → Seen Shut sp v s (recorded xs) → Gap v (s + size (rec b)) (suc s)
+    go : (xs : List (List ℕ)) → Cutting b xs → ShowsBut Shut sp v s (recorded xs) → Gap v (s + size (rec b)) (suc s)
     go [] t k = let o = t .some in absurd (omega arith)
     go (x ∷ xs) t k = let l = t .count in following-gap xs sp v (suc s) (s + size (rec b)) (k .1) (omega arith)
 item-gap fmark sp v s d k = rw add-one here
 
-pub size-pos : (i : Item) → Sound i → 1 ≤ size i
-unfolding blocksFor pieces following recorded gather readAt
-size-pos (rec b) d = omega arith
-size-pos fmark d = omega arith
-
 pub given-item : (i : Item) (s : ℕ) → given s (outcome i) ≡ hand s i ∷ []
-unfolding blocksFor pieces following recorded gather readAt
+unfolding following recorded gather readAt
 given-item (rec b) s = refl
 given-item fmark s = refl
 
-pub scan-item : (i : Item) (sp : ℕ → Bool) (v : View) (c s m n : ℕ) → Sound i → Seen Shut sp v s (blocks i) → s + m ≡ c → s + size i + n ≡ c
+pub scan-item : (i : Item) (sp : ℕ → Bool) (v : View) (c s m n : ℕ) → Sound i → ShowsBut Shut sp v s (blocks i) → s + m ≡ c → s + size i + n ≡ c
     → scan m v c s ≡ pick (whole sp s (size i)) (hand s i ∷ []) [] ++ scan n v c (s + size i)
-unfolding blocksFor pieces following recorded gather readAt
+unfolding following recorded gather readAt
 scan-item i sp v c s zero n d k hm hn = let z = size-pos i d in absurd (omega arith)
 scan-item i sp v c s (suc m) n d k hm hn =
     rw (read-noEnd v c s (item-noEod Shut shut-noEod i sp v s d k), scan-gap (item-gap i sp v s d k) c m n (omega arith) hn)
     (ap (λ (l : List Handed). l ++ scan n v c (s + size i)) (go (whole sp s (size i)) refl))
   where
     go : (t : Bool) → whole sp s (size i) ≡ t → given s (readAt v c s .told) ≡ pick t (hand s i ∷ []) []
-    go true e = rw (read-whole i v c s d (seen-whole Shut sp v s (blocks i) k (rw (length-blocks i) e)) (omega arith)) (given-item i s)
+    go true e = rw (read-whole i v c s d (shows-whole Shut sp v s (blocks i) k (rw (length-blocks i) e)) (omega arith)) (given-item i s)
     go false e = read-broken i sp v c s d k e
 
 -- ---- a whole cartridge
 
-pub seen-append : (P : Content → Type 0) (sp : ℕ → Bool) (v : View) (s : ℕ) (bs ds : List Content) → Seen P sp v s (bs ++ ds) → Seen P sp v s bs × Seen P sp v (s + length bs) ds
-unfolding blocksFor pieces following recorded gather readAt
-seen-append P sp v s [] ds k = (tt, rw add-zero k)
-seen-append P sp v s (b ∷ bs) ds k =
-    let r = seen-append P sp v (suc s) bs ds (k .1) in
+pub shows-append : (P : Content → Type 0) (sp : ℕ → Bool) (v : View) (s : ℕ) (bs ds : List Content) → ShowsBut P sp v s (bs ++ ds) → ShowsBut P sp v s bs × ShowsBut P sp v (s + length bs) ds
+unfolding following recorded gather readAt
+shows-append P sp v s [] ds k = (tt, rw add-zero k)
+shows-append P sp v s (b ∷ bs) ds k =
+    let r = shows-append P sp v (suc s) bs ds (k .1) in
     ((k .0, r .0), rw (add-suc, ← suc-add) (r .1))
 
 -- nothing opens from s up to c
@@ -294,42 +222,43 @@ unfoldable pub Blank : View → ℕ → ℕ → Type 0
 Blank v s c = (p : ℕ) → s ≤ p → p < c → Shut (v p)
 
 pub scan-blank : (n : ℕ) (v : View) (c s : ℕ) → Blank v s c → s + n ≡ c → scan n v c s ≡ []
-unfolding Blank blocksFor pieces following recorded gather readAt
+unfolding Blank following recorded gather readAt
 scan-blank zero v c s k h = refl
 scan-blank (suc n) v c s k h = quiet-scan v c s n (shut-quiet (v s) (k s (omega arith) (omega arith))) ∙ scan-blank n v c (suc s) (λ p a b. k p (omega arith) b) (omega arith)
 
-abbrev pub sizes : List Item → ℕ
-sizes [] = 0
-sizes (i ∷ is) = size i + sizes is
+-- items, and end of data behind them once the recording is closed
+abbrev pub endMark : Bool → List Content
+endMark true = head eod ∷ []
+endMark false = []
 
--- the blocks of a closed recording
-abbrev pub closed : List Item → List Content
-closed is = layout is ++ (head eod ∷ [])
+abbrev pub laid : List Item → Bool → List Content
+laid is t = layout is ++ endMark t
 
-pub scan-closed : (is : List Item) (sp : ℕ → Bool) (v : View) (c s n : ℕ) → AllSound is → Seen Shut sp v s (closed is) → Blank v (s + sizes is + 1) c → s + n ≡ c → sizes is + 1 ≤ n
-    → scan n v c s ≡ intact sp s is
-unfolding blocksFor pieces following recorded gather readAt
-scan-closed [] sp v c s zero d k b h e = refl
-scan-closed [] sp v c s (suc n) d k b h e = go (sp s) (k .0)
+-- closed or still open, the places in turn hand out the items whose blocks are unspoiled
+pub scan-laid : (is : List Item) (t : Bool) (sp : ℕ → Bool) (v : View) (c s n : ℕ) → AllSound is → ShowsBut Shut sp v s (laid is t)
+    → Blank v (s + sizes is + pick t 1 0) c → s + n ≡ c → sizes is + pick t 1 0 ≤ n → scan n v c s ≡ intact sp s is
+unfolding readAt
+scan-laid [] false sp v c s n d k b h e = scan-blank n v c s (simp add-zero at b) h
+scan-laid [] true sp v c s zero d k b h e = refl
+scan-laid [] true sp v c s (suc n) d k b h e = go (sp s) (k .0)
   where
     rest : Blank v (suc s) c
     rest = rw (add-zero, add-one) at b
 
-    go : (t : Bool) → Now Shut t (v s) (head eod) → scan (suc n) v c s ≡ []
+    go : (u : Bool) → Now Shut u (v s) (head eod) → scan (suc n) v c s ≡ []
     go true k = quiet-scan v c s n (shut-quiet (v s) k) ∙ scan-blank n v c (suc s) rest (omega arith)
     go false k = rw k
-scan-closed (i ∷ is) sp v c s n d k b h e =
-    let r = seen-append Shut sp v s (blocks i) (closed is) (rw append-assoc at k) in
-    let k′ : Seen Shut sp v (s + size i) (closed is) = rw length-blocks at (r .1) in
-    let b′ : Blank v (s + size i + sizes is + 1) c = rw (add-assoc s) b in
+scan-laid (i ∷ is) t sp v c s n d k b h e =
+    let r = shows-append Shut sp v s (blocks i) (laid is t) (rw append-assoc at k) in
+    let k′ : ShowsBut Shut sp v (s + size i) (laid is t) = rw length-blocks at (r .1) in
+    let b′ : Blank v (s + size i + sizes is + pick t 1 0) c = rw (add-assoc s) b in
     scan-item i sp v c s n (n - size i) (d .0) (r .0) h (omega arith)
-    ∙ ap (λ (l : List Handed). pick (whole sp s (size i)) (hand s i ∷ []) [] ++ l) (scan-closed is sp v c (s + size i) (n - size i) (d .1) k′ b′ (omega arith) (omega arith))
+    ∙ ap (λ (l : List Handed). pick (whole sp s (size i)) (hand s i ∷ []) [] ++ l)
+    (scan-laid is t sp v c (s + size i) (n - size i) (d .1) k′ b′ (omega arith) (omega arith))
 
-pub length-layout : (is : List Item) → length (layout is) ≡ sizes is
-unfolding blocksFor pieces following recorded gather readAt
-length-layout [] = refl
-length-layout (i ∷ is) = rw (length-append, length-blocks, length-layout is)
+length-endMark : (t : Bool) → length (endMark t) ≡ pick t 1 0
+length-endMark true = refl
+length-endMark false = refl
 
-pub length-closed : (is : List Item) → length (closed is) ≡ sizes is + 1
-unfolding blocksFor pieces following recorded gather readAt
-length-closed is = rw (length-append, length-layout)
+pub length-laid : (is : List Item) (t : Bool) → length (laid is t) ≡ sizes is + pick t 1 0
+length-laid is t = rw (length-append, length-layout, length-endMark t)

@@ -1,14 +1,17 @@
 -- What demand 3 says of an image `was`, written by our writer, and an image `now` of the same length.
 use mathlib.Core.Path.{_≡_}
+use mathlib.Core.Logic.{_≢_}
 use mathlib.Core.Bool.{Bool, true, false, not}
 use mathlib.Core.List.{List, [], _∷_, _++_}
-use Prim.Native.Nat.{ℕ, zero, suc, _+_, _≤_}
+use Prim.Native.Nat.{ℕ, zero, suc, _+_, _≤_, _<_}
 use lib.ListN.{length}
 use Rattle.laws.specs.Choose.{pick}
 use Rattle.laws.specs.Lists.{same}
-use Rattle.block.specs.Image.{blockAt, capacityOf, view}
+use Rattle.block.specs.Content.{Shut}
+use Rattle.block.specs.Image.{blockAt, capacityOf}
 use Rattle.writer.specs.Items.{Item, size}
 use Rattle.reader.specs.Walk.{walk}
+use Rattle.cartridge.specs.Chain.{Run, left, items, shown}
 use Rattle.cartridge.specs.Handed.{Handed, hand, handed}
 
 -- block p has other bytes than it had
@@ -25,7 +28,12 @@ abbrev pub intact : (ℕ → Bool) → ℕ → List Item → List Handed
 intact sp s [] = []
 intact sp s (i ∷ is) = pick (whole sp s (size i)) (hand s i ∷ []) [] ++ intact sp (s + size i) is
 
--- the walk hands out exactly these, and takes no more reads than there are blocks
-pub record Recovered (key : List ℕ) (id recording : ℕ) (was now : List ℕ) (is : List Item) : Type 0 where
-  pub gives : handed (walk (view key id recording now) (capacityOf now)) ≡ intact (spoiled was now) 0 is
-  pub short : length (walk (view key id recording now) (capacityOf now)) ≤ capacityOf now
+-- what is left of a run's image after damage: a block that has other bytes does not open at its place
+pub record Damaged (r : Run) (now : List ℕ) : Type 0 where
+  pub long : length now ≡ length (left r .image)
+  pub shuts : (p : ℕ) → p < capacityOf now → blockAt now p ≢ blockAt (left r .image) p → Shut (shown (r .setup) now p)
+
+-- the walk hands out exactly the run's items whose blocks are unspoiled, and takes no more reads than there are blocks
+pub record Recovered (r : Run) (now : List ℕ) : Type 0 where
+  pub gives : handed (walk (shown (r .setup) now) (capacityOf now)) ≡ intact (spoiled (left r .image) now) 0 (items r)
+  pub short : length (walk (shown (r .setup) now) (capacityOf now)) ≤ capacityOf now

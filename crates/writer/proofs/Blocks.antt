@@ -1,4 +1,4 @@
--- What a call alters in the image: an item's own blocks, which stand there sealed, and no others; a closing one block; refused, none.
+-- What a call alters in the image: an item's own blocks, which stand there sealed, and no others; a closing one block; refused, refusedState.
 -- Assumes nothing.
 use mathlib.Core.Path.{_≡_, refl, sym, _∙_}
 use mathlib.Core.List.{List, [], _∷_}

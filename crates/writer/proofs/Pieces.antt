@@ -18,12 +18,12 @@ use Rattle.block.specs.Image.{setBlock, lay}
 use Rattle.writer.specs.Items.{Item, rec, fmark, blocksFor, size, blocks, pieces, isNil, following, recorded, piece, pieceAt}
 
 -- ---- how many there are
-length-pieces : (k : ℕ) (b : List ℕ) → length (pieces k b) ≡ k
+pub length-pieces : (k : ℕ) (b : List ℕ) → length (pieces k b) ≡ k
 unfolding pieces
 length-pieces zero b = refl
 length-pieces (suc k) b = ap suc (length-pieces k (drop 488 b))
 
-length-following : (xs : List (List ℕ)) → length (following xs) ≡ length xs
+pub length-following : (xs : List (List ℕ)) → length (following xs) ≡ length xs
 unfolding following
 length-following [] = refl
 length-following (x ∷ xs) = ap suc (length-following xs)
@@ -38,7 +38,7 @@ length-blocks (rec b) = length-recorded (pieces (blocksFor (length b)) b) ∙ le
 length-blocks fmark = refl
 
 -- ---- what stands at i
--- none follows the last
+-- refusedState follows the last
 none-follows : (k : ℕ) (b : List ℕ) → isNil (pieces k b) ≡ eqb 1 (suc k)
 unfolding pieces
 none-follows zero b = refl

@@ -3,7 +3,7 @@
 use borrow.Author.Tests.{eq-eqb, eqb-true, leb-true, ltb-true, not-true}
 use mathlib.Core.Path.{_≡_, refl, sym, ap, _∙_}
 use mathlib.Core.Bool.{Bool, true, false, not, _&&_}
-use mathlib.Core.List.{List}
+use mathlib.Core.List.{List, [], _∷_}
 use Prim.Native.Nat.{ℕ, zero, suc, _+_, _*_, _≤_, _<_}
 use native.Mathlib.Omega.{arith}
 use lib.Dec.{eqb, leb, ltb}
@@ -13,7 +13,7 @@ use Rattle.laws.proofs.ChooseLaws.{both-left, both-right, no-refusal}
 use Rattle.block.specs.Image.{capacityOf, imageThenKey}
 use Rattle.block.proofs.ImageSize.{Asked, image-sized, asks-refused, asks-rest, asked}
 use Rattle.writer.specs.declared.WriterState.{WriterState}
-use Rattle.writer.specs.Items.{Item, rec, blocksFor, size}
+use Rattle.writer.specs.Items.{Item, rec, fmark, blocksFor, size}
 use Rattle.writer.specs.Writing.{zoneOk, placeOk, lawful, lengthOk, room, callNumber, itemNumber, closeNumber}
 
 -- a call that finds image, key and state as they should be, and the recording open
@@ -33,12 +33,12 @@ zoned c e z =
     record { low = leb-true 1 e (both-left (leb 1 e) (ltb e c) z); high = ltb-true e c (both-right (leb 1 e) (ltb e c) z) }
 
 -- lawful, taken apart and put together
-pub record Lawful (s : WriterState) (c : ℕ) : Type 0 where
+pub record StateLawful (s : WriterState) (c : ℕ) : Type 0 where
   pub capacity-is : s .capacity ≡ c
   pub zone-ok : zoneOk (s .capacity) (s .zone) ≡ true
   pub place-ok : placeOk s ≡ true
 
-pub lawfully : (s : WriterState) (c : ℕ) → lawful s c ≡ true → Lawful s c
+pub lawfully : (s : WriterState) (c : ℕ) → lawful s c ≡ true → StateLawful s c
 unfolding lawful
 lawfully s c e =
     let f = both-right (eqb (s .capacity) c) (zoneOk (s .capacity) (s .zone) && placeOk s) e in
@@ -48,7 +48,7 @@ lawfully s c e =
       place-ok = both-right (zoneOk (s .capacity) (s .zone)) (placeOk s) f;
     }
 
-pub lawful-holds : (s : WriterState) (c : ℕ) → Lawful s c → lawful s c ≡ true
+pub lawful-holds : (s : WriterState) (c : ℕ) → StateLawful s c → lawful s c ≡ true
 unfolding lawful
 lawful-holds s c l = rw (eq-eqb (s .capacity) c (l .capacity-is), l .zone-ok, l .place-ok)
 
@@ -80,7 +80,7 @@ facts {s} {key} {image} r =
       before-held = open-place s (r .is-open) (l .place-ok);
     }
 
--- ---- the number: a refusal is the same whatever comes after, and with none the rest decides
+-- ---- the number: a refusal is the same whatever comes after, and with refusedState the rest decides
 state-refused : (a b : Bool) (rest : ℕ) → (firstOf a 8 (firstOf b 6 0) ≡ 0 → ⊥) → firstOf a 8 (firstOf b 6 rest) ≡ firstOf a 8 (firstOf b 6 0)
 state-refused false b rest n = refl
 state-refused true false rest n = refl
@@ -136,16 +136,25 @@ item-fits s key image i e =
     let c = no-refusal (ltb (s .position + size i) (s .capacity)) 4 0 (b .1) in
     record { ready = a .0; length-ok = b .0; room-ok = ltb-true (s .position + size i) (s .capacity) (c .0) }
 
--- a record's length is 1 to 31,232, and it takes 64 blocks at most
+-- ---- what may be written: a record's length is 1 to 31,232, and it takes 64 blocks at most
 pub record Lengthy (b : List ℕ) : Type 0 where
   pub low : 1 ≤ length b
   pub high : length b ≤ 31232
   pub some : 1 ≤ blocksFor (length b)
   pub few : blocksFor (length b) ≤ 64
 
-pub lengthy : (b : List ℕ) → lengthOk (rec b) ≡ true → Lengthy b
+abbrev pub Sound : Item → Type 0
+Sound (rec b) = Lengthy b
+Sound fmark = Unit {0}
+
+abbrev pub AllSound : List Item → Type 0
+AllSound [] = Unit {0}
+AllSound (i ∷ is) = Sound i × AllSound is
+
+pub sound : (i : Item) → lengthOk i ≡ true → Sound i
 unfolding blocksFor
-lengthy b e =
+sound (rec b) e =
     let l = leb-true 1 (length b) (both-left (leb 1 (length b)) (leb (length b) 31232) e) in
     let h = leb-true (length b) 31232 (both-right (leb 1 (length b)) (leb (length b) 31232) e) in
     record { low = l; high = h; some = omega arith; few = omega arith }
+sound fmark e = tt

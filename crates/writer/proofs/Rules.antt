@@ -16,9 +16,9 @@ use Rattle.writer.specs.declared.WriterState.{WriterState}
 use Rattle.writer.specs.declared.Reply.the-variants.{Plain, Warned, Refused}
 use Rattle.writer.specs.Items.{Item, rec, fmark, size}
 use Rattle.writer.specs.Writing.{numberOf, zoneOk, placeOk, lawful, lengthOk, room, startNumber, itemNumber, closeNumber}
-use Rattle.writer.specs.Writing.{Done, stay, judged, moved, warns, none, started, taken, ended, start, write, close}
+use Rattle.writer.specs.Writing.{Done, stay, judged, moved, warns, refusedState, started, taken, ended, start, write, close}
 use Rattle.writer.proofs.Judged.{judged-number}
-use Rattle.writer.proofs.Ready.{Ready, facts, Lawful, lawfully, lawful-holds, call-asks, close-ready, item-asks, item-fits}
+use Rattle.writer.proofs.Ready.{Ready, facts, StateLawful, lawfully, lawful-holds, call-asks, close-ready, item-asks, item-fits}
 
 -- ---- the number in the answer is that of the first cause, and 0 says that the call was taken
 warns-0 : (s : WriterState) (i : Item) (p : ℕ) → numberOf (warns s i p) ≡ 0
@@ -39,7 +39,7 @@ close-number s key image = judged-number (ended s key image) s image refl (close
 
 pub start-number : (id recording e : ℕ) (image : List ℕ) → numberOf (start id recording e image .reply) ≡ startNumber image e
 unfolding start
-start-number id recording e image = judged-number (started id recording e image) none _ refl (startNumber image e)
+start-number id recording e image = judged-number (started id recording e image) refusedState _ refl (startNumber image e)
 
 -- ---- what a call is, by its number
 pub write-when : (s : WriterState) (key image : List ℕ) (i : Item) (n : ℕ) → numberOf (write s key image i .reply) ≡ n
@@ -53,9 +53,9 @@ unfolding close
 close-when s key image n e = ap (judged (ended s key image) s image) (sym (close-number s key image) ∙ e)
 
 pub start-when : (id recording e : ℕ) (image : List ℕ) (n : ℕ) → numberOf (start id recording e image .reply) ≡ n
-    → start id recording e image ≡ judged (started id recording e image) none image n
+    → start id recording e image ≡ judged (started id recording e image) refusedState image n
 unfolding start
-start-when id recording e image n q = ap (judged (started id recording e image) none image) (sym (start-number id recording e image) ∙ q)
+start-when id recording e image n q = ap (judged (started id recording e image) refusedState image) (sym (start-number id recording e image) ∙ q)
 
 -- ---- taken exactly
 -- Refused is never said with the number 0, so that the number 0 is what taken means
@@ -156,7 +156,7 @@ pub closing-plain : (s : WriterState) (key image : List ℕ) → numberOf (close
 closing-plain s key image e = ap (λ (d : Done). d .reply) (close-when s key image 0 e)
 
 -- ---- the state stays lawful
-open-holds : (s : WriterState) (p c : ℕ) → Lawful s c → p < c → lawful (moved s p false) c ≡ true
+open-holds : (s : WriterState) (p c : ℕ) → StateLawful s c → p < c → lawful (moved s p false) c ≡ true
 unfolding placeOk
 open-holds s p c l h =
     lawful-holds (moved s p false) c
@@ -170,7 +170,7 @@ stays-lawful s key image i e =
     rw (moves-by-size s key image i e)
     (open-holds s (s .position + size i) (capacityOf image) (lawfully s (capacityOf image) (t .ready .is-lawful)) (omega arith))
 
-closed-holds : (s : WriterState) (p c : ℕ) → Lawful s c → 1 ≤ p → p ≤ c → lawful (moved s p true) c ≡ true
+closed-holds : (s : WriterState) (p c : ℕ) → StateLawful s c → 1 ≤ p → p ≤ c → lawful (moved s p true) c ≡ true
 unfolding placeOk
 closed-holds s p c l n h =
     let m : p ≤ s .capacity = omega (arith, l .capacity-is) in

@@ -1,6 +1,6 @@
 -- Records and file marks, and the blocks that each takes (01, "The cartridge image" and "Writing").
 use mathlib.Core.Bool.{Bool, true, false}
-use mathlib.Core.List.{List, [], _∷_}
+use mathlib.Core.List.{List, [], _∷_, _++_}
 use Prim.Native.Nat.{ℕ, zero, suc, _+_, _*_, _/_}
 use lib.Dec.{eqb}
 use lib.ListN.{length, take, drop}
@@ -40,7 +40,16 @@ abbrev pub blocks : Item → List Content
 blocks (rec b) = recorded (pieces (blocksFor (length b)) b)
 blocks fmark = head mark ∷ []
 
--- a record's first block, or a following one
+-- ---- items one behind another: their blocks, and how many there are
+abbrev pub layout : List Item → List Content
+layout [] = []
+layout (i ∷ is) = blocks i ++ layout is
+
+abbrev pub sizes : List Item → ℕ
+sizes [] = 0
+sizes (i ∷ is) = size i + sizes is
+
+-- ---- a record's first block, or a following one
 abbrev pub piece : Bool → Bool → List ℕ → Content
 piece true last b = head (first last b)
 piece false last b = more last b

@@ -80,8 +80,8 @@ warns s (rec b) p = pick (ltb (s .capacity - s .zone) p) Warned Plain
 warns s fmark p = Plain
 
 -- the state of a refused start: lawful for no image
-abbrev pub none : WriterState
-none = record { id = 0; recording = 0; capacity = 0; zone = 0; position = 0; closed = true }
+abbrev pub refusedState : WriterState
+refusedState = record { id = 0; recording = 0; capacity = 0; zone = 0; position = 0; closed = true }
 
 abbrev pub started : ℕ → ℕ → ℕ → List ℕ → Done
 started id recording e image =
@@ -108,7 +108,7 @@ ended s key image =
     }
 
 unfoldable pub start : ℕ → ℕ → ℕ → List ℕ → Done
-start id recording e image = judged (started id recording e image) none image (startNumber image e)
+start id recording e image = judged (started id recording e image) refusedState image (startNumber image e)
 
 -- a record or a mark; and a closing
 unfoldable pub write : WriterState → List ℕ → List ℕ → Item → Done

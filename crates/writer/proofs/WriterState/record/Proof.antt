@@ -5,7 +5,7 @@ use mathlib.Core.Path.{sym, _∙_}
 use Prim.Native.Nat.{_+_, _-_, _≤_, _<_}
 use native.Mathlib.Omega.{arith}
 use Rattle.writer.specs.Items.{rec}
-use Rattle.writer.proofs.Ready.{Fits, facts, item-fits, lengthy}
+use Rattle.writer.proofs.Ready.{Fits, facts, item-fits, sound}
 use Rattle.writer.proofs.Answers.{write-refused, write-taken, record-said}
 use borrow.Author.Needs.{needs}
 use Rattle.writer.proofs.WriterState.record.Statement.{statement}
@@ -25,7 +25,7 @@ returns : tie.Need-returns
 returns c = write-refused _ _ _ (rec _) (c .before .record-number .ensures) (c .if1 .taken)
 
 blocks-for-requires : tie.Need-blocks-for-requires
-blocks-for-requires c κs = lengthy (c .before .before .before .before .before .before .args .bytes .now) (fits c .length-ok) .high
+blocks-for-requires c κs = sound (rec (c .before .before .before .before .before .before .args .bytes .now)) (fits c .length-ok) .high
 
 lay-record-requires : tie.Need-lay-record-requires
 lay-record-requires c κs =

@@ -1,0 +1,57 @@
+-- Items one behind another: how many blocks they take, one item more, and the payloads that make up a record.
+-- Assumes nothing.
+use mathlib.Core.Path.{_≡_, refl, sym}
+use mathlib.Core.List.{List, [], _∷_, _++_, append-nil, append-assoc}
+use Prim.Native.Nat.{ℕ, zero, suc, _+_, _*_, _≤_}
+use native.Mathlib.Nat.{add-zero, zero-add}
+use native.Mathlib.Omega.{arith}
+use lib.ListN.{length, drop, length-append, length-drop, take-append-drop}
+use Rattle.writer.specs.Items.{Item, rec, fmark, blocksFor, size, pieces, blocks, layout, sizes}
+use Rattle.writer.proofs.Pieces.{length-pieces, length-blocks}
+use Rattle.writer.proofs.Ready.{Lengthy, Sound, AllSound}
+
+pub length-layout : (is : List Item) → length (layout is) ≡ sizes is
+length-layout [] = refl
+length-layout (i ∷ is) = rw (length-append, length-blocks, length-layout is)
+
+-- ---- one item more
+pub sizes-snoc : (is : List Item) (i : Item) → sizes (is ++ (i ∷ [])) ≡ sizes is + size i
+sizes-snoc [] i = simp (add-zero, zero-add)
+sizes-snoc (j ∷ is) i = rw (sizes-snoc is i) (omega arith)
+
+pub layout-snoc : (is : List Item) (i : Item) → layout (is ++ (i ∷ [])) ≡ layout is ++ blocks i
+layout-snoc [] i = append-nil (blocks i)
+layout-snoc (j ∷ is) i = rw (layout-snoc is i) (sym (append-assoc (blocks j) (layout is) (blocks i)))
+
+pub sound-snoc : (is : List Item) (i : Item) → AllSound is → Sound i → AllSound (is ++ (i ∷ []))
+sound-snoc [] i h k = (k, tt)
+sound-snoc (j ∷ is) i h k = (h .0, sound-snoc is i (h .1) k)
+
+pub size-pos : (i : Item) → Sound i → 1 ≤ size i
+size-pos (rec b) d = d .some
+size-pos fmark d = omega arith
+
+-- ---- a record's payloads: one at least and 64 at the most, and together they are the record
+abbrev pub flat : List (List ℕ) → List ℕ
+flat [] = []
+flat (x ∷ xs) = x ++ flat xs
+
+flat-pieces : (k : ℕ) (b : List ℕ) → length b ≤ 488 * k → flat (pieces k b) ≡ b
+unfolding pieces
+flat-pieces zero [] h = refl
+flat-pieces zero (x ∷ b) h = absurd (omega arith)
+flat-pieces (suc k) b h = rw (flat-pieces k (drop 488 b) (simp length-drop (omega arith))) (take-append-drop 488 b)
+
+pub record Cutting (b : List ℕ) (xs : List (List ℕ)) : Type 0 where
+  pub joined : flat xs ≡ b
+  pub count : length xs ≡ size (rec b)
+  pub some : 1 ≤ length xs
+  pub few : length xs ≤ 64
+
+pub cutting : (b : List ℕ) → Lengthy b → Cutting b (pieces (size (rec b)) b)
+unfolding blocksFor
+cutting b d =
+    let l = length-pieces (size (rec b)) b in
+    let s = d .some in
+    let f = d .few in
+    record { joined = flat-pieces (size (rec b)) b (omega arith); count = l; some = omega arith; few = omega arith }
