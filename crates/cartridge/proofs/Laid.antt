@@ -24,7 +24,6 @@ use Rattle.cartridge.proofs.Scan.{scan, Quiet, Gap, here, step, quiet-s
 -- ---- a read of blocks that all open
 
 pub shows-whole : (P : Content → Type 0) (sp : ℕ → Bool) (v : View) (s : ℕ) (bs : List Content) → ShowsBut P sp v s bs → whole sp s (length bs) ≡ true → Stands v s bs
-unfolding following recorded gather readAt
 shows-whole P sp v s [] h w = tt
 shows-whole P sp v s (b ∷ bs) h w = go (sp s) (h .0) w (λ k. shows-whole P sp v (suc s) bs (h .1) k)
   where
@@ -34,7 +33,7 @@ shows-whole P sp v s (b ∷ bs) h w = go (sp s) (h .0) w (λ k. shows-whole P sp
 
 pub gather-whole : (xs : List (List ℕ)) (x : List ℕ) (room : ℕ) (v : View) (q : ℕ) (acc : List ℕ) → Stands v q (following (x ∷ xs)) → length (x ∷ xs) ≤ room
     → gather room v q acc ≡ answer (Record (acc ++ flat (x ∷ xs))) (q + length (x ∷ xs))
-unfolding following recorded gather readAt
+unfolding following gather
 gather-whole xs x zero v q acc s h = absurd (omega arith)
 gather-whole [] x (suc room) v q acc s h = rw (s .0, append-nil, add-one)
 gather-whole (y ∷ ys) x (suc room) v q acc s h =
@@ -46,13 +45,13 @@ outcome fmark = Mark
 
 pub read-pieces : (x : List ℕ) (xs : List (List ℕ)) (v : View) (c s : ℕ) → Stands v s (recorded (x ∷ xs)) → s + length (x ∷ xs) ≤ c → length (x ∷ xs) ≤ 64
     → readAt v c s ≡ answer (Record (flat (x ∷ xs))) (s + length (x ∷ xs))
-unfolding following recorded gather readAt
+unfolding recorded readAt
 read-pieces x [] v c s k h l = rw (k .0, append-nil, add-one)
 read-pieces x (y ∷ ys) v c s k h l = rw (k .0, gather-whole ys y (min (c - suc s) 63) v (suc s) x (k .1) (omega arith)) (simp (suc-add, add-suc))
 
 -- An item whose blocks all open is read as it was written, whatever stands around it.
 pub read-whole : (i : Item) (v : View) (c s : ℕ) → Sound i → Stands v s (blocks i) → s + size i ≤ c → readAt v c s ≡ answer (outcome i) (s + size i)
-unfolding following recorded gather readAt
+unfolding readAt
 read-whole (rec b) v c s d k h = go (pieces (size (rec b)) b) (cutting b d) k
   where
     go : (xs : List (List ℕ)) → Cutting b xs → Stands v s (recorded xs) → readAt v c s ≡ answer (Record b) (s + size (rec b))
@@ -64,7 +63,7 @@ read-whole fmark v c s d k h = rw (k .0, add-one)
 -- ---- a read of an item of which a block is spoiled
 
 pub gather-noEnd : (room : ℕ) (v : View) (q : ℕ) (acc : List ℕ) → isEnd (gather room v q acc .told) ≡ false
-unfolding following recorded gather readAt
+unfolding gather
 gather-noEnd zero v q acc = refl
 gather-noEnd (suc room) v q acc = go (v q) (λ a. gather-noEnd room v (suc q) a)
   where
@@ -82,7 +81,7 @@ isEod (head mark) = false
 isEod (head eod) = true
 
 pub read-noEnd : (v : View) (c p : ℕ) → isEod (v p) ≡ false → isEnd (readAt v c p .told) ≡ false
-unfolding following recorded gather readAt
+unfolding readAt
 read-noEnd v c p h = go (v p) h
   where
     go : (o : Content) → isEod o ≡ false → isEnd (between o v c p .told) ≡ false
@@ -94,25 +93,21 @@ read-noEnd v c p h = go (v p) h
     go (head eod) h = absurd (true≢false h)
 
 shut-inside : (o : Content) (p q : ℕ) (acc : List ℕ) (k : List ℕ → Answer) → Shut o → given p (inside o q acc k .told) ≡ []
-unfolding following recorded gather readAt
 shut-inside shut p q acc k h = refl
 shut-inside (more l b) p q acc k h = absurd h
 shut-inside (head x) p q acc k h = absurd h
 
 shut-between : (o : Content) (v : View) (c p : ℕ) → Shut o → given p (between o v c p .told) ≡ []
-unfolding following recorded gather readAt
 shut-between shut v c p h = refl
 shut-between (more l b) v c p h = absurd h
 shut-between (head x) v c p h = absurd h
 
 shut-quiet : (o : Content) → Shut o → Quiet o
-unfolding following recorded gather readAt
 shut-quiet shut h = tt
 shut-quiet (more l b) h = absurd h
 shut-quiet (head x) h = absurd h
 
 shut-noEod : (o : Content) → Shut o → isEod o ≡ false
-unfolding following recorded gather readAt
 shut-noEod shut h = refl
 shut-noEod (more l b) h = absurd h
 shut-noEod (head x) h = absurd h
@@ -120,7 +115,7 @@ shut-noEod (head x) h = absurd h
 -- the record's read from its second block on
 gather-broken : (xs : List (List ℕ)) (x : List ℕ) (room : ℕ) (sp : ℕ → Bool) (v : View) (p q : ℕ) (acc : List ℕ) → ShowsBut Shut sp v q (following (x ∷ xs))
     → whole sp q (length (x ∷ xs)) ≡ false → given p (gather room v q acc .told) ≡ []
-unfolding following recorded gather readAt
+unfolding following gather
 gather-broken xs x zero sp v p q acc s w = refl
 gather-broken [] x (suc room) sp v p q acc s w = go (sp q) (s .0) w
   where
@@ -135,7 +130,7 @@ gather-broken (y ∷ ys) x (suc room) sp v p q acc s w = go (sp q) (s .0) w (λ 
     go false h w k = rw h (k w)
 
 pub read-broken : (i : Item) (sp : ℕ → Bool) (v : View) (c s : ℕ) → Sound i → ShowsBut Shut sp v s (blocks i) → whole sp s (size i) ≡ false → given s (readAt v c s .told) ≡ []
-unfolding following recorded gather readAt
+unfolding recorded readAt
 read-broken (rec b) sp v c s d k w =
     let t = cutting b d in go (pieces (size (rec b)) b) (t .some) k (rw (t .count) w)
   where
@@ -157,7 +152,7 @@ read-broken fmark sp v c s d k w = go (sp s) (k .0) w
 
 -- Its first block is no end of data. P is what spoiled blocks satisfy.
 pub item-noEod : (P : Content → Type 0) → ((o : Content) → P o → isEod o ≡ false) → (i : Item) (sp : ℕ → Bool) (v : View) (s : ℕ) → Sound i → ShowsBut P sp v s (blocks i) → isEod (v s) ≡ false
-unfolding following recorded gather readAt
+unfolding recorded
 item-noEod P n (rec b) sp v s d k = go (pieces (size (rec b)) b) (cutting b d .some) k
   where
     either : (t : Bool) (x : List ℕ) (l : Bool) → Now P t (v s) (head (first l x)) → isEod (v s) ≡ false
@@ -174,7 +169,7 @@ item-noEod P n fmark sp v s d k = either (sp s) (k .0)
     either false h = rw h
 
 following-gap : (xs : List (List ℕ)) (sp : ℕ → Bool) (v : View) (q e : ℕ) → ShowsBut Shut sp v q (following xs) → q + length xs ≡ e → Gap v e q
-unfolding following recorded gather readAt
+unfolding following
 following-gap [] sp v q e k h = let z : q ≡ e = omega arith in rw z here
 following-gap (x ∷ xs) sp v q e k h = step {q = q} (either (sp q) (k .0)) (following-gap xs sp v (suc q) e (k .1) (omega arith))
   where
@@ -183,7 +178,7 @@ following-gap (x ∷ xs) sp v q e k h = step {q = q} (either (sp q) (k .0)) (fol
     either false h = rw h tt
 
 pub item-gap : (i : Item) (sp : ℕ → Bool) (v : View) (s : ℕ) → Sound i → ShowsBut Shut sp v s (blocks i) → Gap v (s + size i) (suc s)
-unfolding following recorded gather readAt
+unfolding recorded
 item-gap (rec b) sp v s d k = go (pieces (size (rec b)) b) (cutting b d) k
   where
     go : (xs : List (List ℕ)) → Cutting b xs → ShowsBut Shut sp v s (recorded xs) → Gap v (s + size (rec b)) (suc s)
@@ -192,13 +187,11 @@ item-gap (rec b) sp v s d k = go (pieces (size (rec b)) b) (cutting b d) k
 item-gap fmark sp v s d k = rw add-one here
 
 pub given-item : (i : Item) (s : ℕ) → given s (outcome i) ≡ hand s i ∷ []
-unfolding following recorded gather readAt
 given-item (rec b) s = refl
 given-item fmark s = refl
 
 pub scan-item : (i : Item) (sp : ℕ → Bool) (v : View) (c s m n : ℕ) → Sound i → ShowsBut Shut sp v s (blocks i) → s + m ≡ c → s + size i + n ≡ c
     → scan m v c s ≡ pick (whole sp s (size i)) (hand s i ∷ []) [] ++ scan n v c (s + size i)
-unfolding following recorded gather readAt
 scan-item i sp v c s zero n d k hm hn = let z = size-pos i d in absurd (omega arith)
 scan-item i sp v c s (suc m) n d k hm hn =
     rw (read-noEnd v c s (item-noEod Shut shut-noEod i sp v s d k), scan-gap (item-gap i sp v s d k) c m n (omega arith) hn)
@@ -211,7 +204,6 @@ scan-item i sp v c s (suc m) n d k hm hn =
 -- ---- a whole cartridge
 
 pub shows-append : (P : Content → Type 0) (sp : ℕ → Bool) (v : View) (s : ℕ) (bs ds : List Content) → ShowsBut P sp v s (bs ++ ds) → ShowsBut P sp v s bs × ShowsBut P sp v (s + length bs) ds
-unfolding following recorded gather readAt
 shows-append P sp v s [] ds k = (tt, rw add-zero k)
 shows-append P sp v s (b ∷ bs) ds k =
     let r = shows-append P sp v (suc s) bs ds (k .1) in
@@ -222,7 +214,7 @@ unfoldable pub Blank : View → ℕ → ℕ → Type 0
 Blank v s c = (p : ℕ) → s ≤ p → p < c → Shut (v p)
 
 pub scan-blank : (n : ℕ) (v : View) (c s : ℕ) → Blank v s c → s + n ≡ c → scan n v c s ≡ []
-unfolding Blank following recorded gather readAt
+unfolding Blank
 scan-blank zero v c s k h = refl
 scan-blank (suc n) v c s k h = quiet-scan v c s n (shut-quiet (v s) (k s (omega arith) (omega arith))) ∙ scan-blank n v c (suc s) (λ p a b. k p (omega arith) b) (omega arith)
 
