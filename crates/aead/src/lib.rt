@@ -70,7 +70,8 @@ fn seal_from(mut state: [u8; STATE_BYTES], message: &[u8], out: &mut [u8])
 // does not fit, `out` is left all zero.
 fn open_from(mut state: [u8; STATE_BYTES], sealed: &[u8], out: &mut [u8]) -> bool
     requires { ⌜ (length state ≡ 64) × (length (now out) ≤ 65520) × (length (now sealed) ≡ length (now out) + 16) ⌝ }
-    ensures { λ r. ⌜ (r ≡ fitsFrom state (now (sealed .entry))) × (now (out .exit) ≡ pick r (openedFrom state (now (sealed .entry))) (replicate (length (now (out .entry))) 0)) ⌝ }
+    ensures { λ r. ⌜ (r ≡ fitsFrom state (now (sealed .entry))) ×
+        (now (out .exit) ≡ pick r (openedFrom state (now (sealed .entry))) (replicate (length (now (out .entry))) 0)) ⌝ }
 {
     let n = out.len();
     sponge::dec(&mut state, &sealed[..n], out, DOMAIN_MESSAGE);
@@ -84,7 +85,8 @@ fn open_from(mut state: [u8; STATE_BYTES], sealed: &[u8], out: &mut [u8]) -> boo
 // Seals the message into `out`, 16 bytes longer. 2: key, nonce or `out` of a wrong length; 9: associated data above 65,536 bytes or
 // message above 65,520. Refused, `out` is untouched.
 pub fn seal(key: &[u8], nonce: &[u8], associated: &[u8], message: &[u8], out: &mut [u8]) -> u8
-    ensures { λ r. ⌜ Sealed (now (key .entry)) (now (nonce .entry)) (now (associated .entry)) (now (message .entry)) (now (out .entry)) r (now (out .exit)) ⌝ }
+    ensures { λ r. ⌜ Sealed (now (key .entry)) (now (nonce .entry)) (now (associated .entry)) (now (message .entry))
+        (now (out .entry)) r (now (out .exit)) ⌝ }
 {
     if !are_sized(key, nonce, out.len(), message.len()) {
         return WRONG_LENGTH;
@@ -98,7 +100,8 @@ pub fn seal(key: &[u8], nonce: &[u8], associated: &[u8], message: &[u8], out: &m
 
 // Opens what was sealed into `out`, 16 bytes shorter. 2 and 9 as for sealing, `out` untouched; 7: the tag does not fit, `out` all zero.
 pub fn open(key: &[u8], nonce: &[u8], associated: &[u8], sealed: &[u8], out: &mut [u8]) -> u8
-    ensures { λ r. ⌜ Opened (now (key .entry)) (now (nonce .entry)) (now (associated .entry)) (now (sealed .entry)) (now (out .entry)) r (now (out .exit)) ⌝ }
+    ensures { λ r. ⌜ Opened (now (key .entry)) (now (nonce .entry)) (now (associated .entry)) (now (sealed .entry))
+        (now (out .entry)) r (now (out .exit)) ⌝ }
 {
     if !are_sized(key, nonce, sealed.len(), out.len()) {
         return WRONG_LENGTH;

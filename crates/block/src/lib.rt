@@ -117,8 +117,11 @@ fn payload_of(bytes: &[u8]) -> [u8; BLOCK_PAYLOAD]
 
 // Lays the header and the sealed message over the first 512 bytes of `part`.
 fn seal_parts(key: &[u8], nonce: &[u8; 16], head: &[u8; 8], message: &[u8; 488], part: &mut [u8])
-    requires { ⌜ (length (now key) ≡ 24) × (512 ≤ length (now part)) × (length (now nonce) ≡ 16) × (length (now head) ≡ 8) × (length (now message) ≡ 488) ⌝ }
-    ensures { λ _. ⌜ now (part .exit) ≡ splice (now (part .entry)) 0 (now (head .entry) ++ sealed (now (key .entry)) (now (nonce .entry)) (now (head .entry)) (now (message .entry))) ⌝ }
+    requires { ⌜ (length (now key) ≡ 24) × (512 ≤ length (now part)) × (length (now nonce) ≡ 16) ×
+        (length (now head) ≡ 8) × (length (now message) ≡ 488) ⌝ }
+    ensures { λ _. ⌜ now (part .exit) ≡ splice (now (part .entry)) 0
+        (now (head .entry) ++ sealed (now (key .entry)) (now (nonce .entry)) (now (head .entry)) (now (message .entry)))
+        ⌝ }
 {
     buffer::copy(part, head);
     aead::seal(key, nonce, head, message, &mut part[8..BLOCK_BYTES]);
@@ -136,7 +139,8 @@ pub fn seal_block(
     bytes: &[u8],
     part: &mut [u8],
 ) -> u8
-    ensures { λ r. ⌜ SealedAt (now (key .entry)) id recording p kind last (now (bytes .entry)) (now (part .entry)) r (now (part .exit)) ⌝ }
+    ensures { λ r. ⌜ SealedAt (now (key .entry)) id recording p kind last (now (bytes .entry)) (now (part .entry)) r
+        (now (part .exit)) ⌝ }
 {
     if key.len() != KEY_BYTES {
         return WRONG_LENGTH;
@@ -263,7 +267,8 @@ fn settle(kind: u8, last: u8, used: usize, out: &mut [u8]) -> Seen
 // Opens the block at the front of `part` as block p, its payload into the 488 bytes of `out`; where it does not open, `out` is zero.
 // A key, a part or an `out` of a wrong length: nothing opens, and `out` stays.
 pub fn open_block(key: &[u8], id: u32, recording: u64, p: u32, part: &[u8], out: &mut [u8]) -> Seen
-    ensures { λ r. ⌜ OpenedAt (now (key .entry)) id recording p (now (part .entry)) (now (out .entry)) r (now (out .exit)) ⌝ }
+    ensures { λ r. ⌜ OpenedAt (now (key .entry)) id recording p (now (part .entry)) (now (out .entry)) r
+        (now (out .exit)) ⌝ }
 {
     if key.len() != KEY_BYTES {
         return Seen::Shut;

@@ -32,7 +32,8 @@ fn add(state: &mut [u8], group: &[u8])
 // The state into the group, by xor.
 fn mask(group: &mut [u8], state: &[u8])
     requires { ⌜ (length (now state) ≡ 64) × (length (now group) ≤ 32) ⌝ }
-    ensures { λ _. ⌜ now (group .exit) ≡ take (length (now (group .entry))) (added (now (group .entry)) (now (state .entry))) ⌝ }
+    ensures { λ _. ⌜ now (group .exit) ≡ take (length (now (group .entry)))
+        (added (now (group .entry)) (now (state .entry))) ⌝ }
 {
     buffer::add(group, state);
 }
@@ -40,7 +41,8 @@ fn mask(group: &mut [u8], state: &[u8])
 // dec masks the ciphertext; the plaintext, added, then makes it the state's front.
 fn work(way: Way, state: &mut [u8], group: &mut [u8])
     requires { ⌜ (length (now state) ≡ 64) × (length (now group) ≤ 32) ⌝ }
-    ensures { λ _. ⌜ Worked (opOf way) (now (group .entry)) (now (state .entry)) (now (state .exit)) (now (group .exit)) ⌝ }
+    ensures { λ _. ⌜ Worked (opOf way) (now (group .entry)) (now (state .entry)) (now (state .exit)) (now (group .exit))
+        ⌝ }
 {
     match way {
         Way::Get => {
@@ -113,7 +115,8 @@ fn absorb(state: &mut [u8], bytes: &[u8], domain: u8)
 // All of io, in place.
 fn run(way: Way, state: &mut [u8], io: &mut [u8], domain: u8)
     requires { ⌜ (length (now state) ≡ 64) × (length (now io) ≤ 65536) ⌝ }
-    ensures { λ _. ⌜ RanAll (opOf way) domain (now (io .entry)) (now (state .entry)) (now (state .exit)) (now (io .exit)) ⌝ }
+    ensures { λ _. ⌜ RanAll (opOf way) domain (now (io .entry)) (now (state .entry)) (now (state .exit))
+        (now (io .exit)) ⌝ }
 {
     let n = io.len();
     let m = last(n);
@@ -158,7 +161,8 @@ pub fn put(state: &mut [u8], bytes: &[u8], domain: u8) -> u8
 
 // Squeezes out as many bytes as `out` has.
 pub fn get(state: &mut [u8], out: &mut [u8], domain: u8) -> u8
-    ensures { λ r. ⌜ Ran get domain (now (out .entry)) (now (state .entry)) (now (out .entry)) r (now (state .exit)) (now (out .exit)) ⌝ }
+    ensures { λ r. ⌜ Ran get domain (now (out .entry)) (now (state .entry)) (now (out .entry)) r (now (state .exit))
+        (now (out .exit)) ⌝ }
 {
     let no = number(state, out, out);
     if no != DONE {
@@ -170,7 +174,8 @@ pub fn get(state: &mut [u8], out: &mut [u8], domain: u8) -> u8
 
 // enc and dec: the bytes are copied, then worked on in place.
 fn through(way: Way, state: &mut [u8], bytes: &[u8], out: &mut [u8], domain: u8) -> u8
-    ensures { λ r. ⌜ Ran (opOf way) domain (now (bytes .entry)) (now (state .entry)) (now (out .entry)) r (now (state .exit)) (now (out .exit)) ⌝ }
+    ensures { λ r. ⌜ Ran (opOf way) domain (now (bytes .entry)) (now (state .entry)) (now (out .entry)) r
+        (now (state .exit)) (now (out .exit)) ⌝ }
 {
     let no = number(state, bytes, out);
     if no != DONE {
@@ -183,14 +188,16 @@ fn through(way: Way, state: &mut [u8], bytes: &[u8], out: &mut [u8], domain: u8)
 
 // Encrypts the message to `out`.
 pub fn enc(state: &mut [u8], message: &[u8], out: &mut [u8], domain: u8) -> u8
-    ensures { λ r. ⌜ Ran enc domain (now (message .entry)) (now (state .entry)) (now (out .entry)) r (now (state .exit)) (now (out .exit)) ⌝ }
+    ensures { λ r. ⌜ Ran enc domain (now (message .entry)) (now (state .entry)) (now (out .entry)) r (now (state .exit))
+        (now (out .exit)) ⌝ }
 {
     through(Way::Enc, state, message, out, domain)
 }
 
 // Decrypts the ciphertext to `out`.
 pub fn dec(state: &mut [u8], cipher: &[u8], out: &mut [u8], domain: u8) -> u8
-    ensures { λ r. ⌜ Ran dec domain (now (cipher .entry)) (now (state .entry)) (now (out .entry)) r (now (state .exit)) (now (out .exit)) ⌝ }
+    ensures { λ r. ⌜ Ran dec domain (now (cipher .entry)) (now (state .entry)) (now (out .entry)) r (now (state .exit))
+        (now (out .exit)) ⌝ }
 {
     through(Way::Dec, state, cipher, out, domain)
 }

@@ -111,8 +111,10 @@ fn lay_piece(
     i: usize,
     image: &mut [u8],
 )
-    requires { ⌜ (length (now key) ≡ 24) × ((p + i) * 512 + 512 ≤ length (now image)) × (p + i < 128) × (i < k) × (k ≡ blocksFor (length (now bytes))) ⌝ }
-    ensures { λ _. ⌜ now (image .exit) ≡ setBlock (now (image .entry)) (p + i) (sealBlock (now (key .entry)) id recording (p + i) (pieceAt (now (bytes .entry)) k i)) ⌝ }
+    requires { ⌜ (length (now key) ≡ 24) × ((p + i) * 512 + 512 ≤ length (now image)) × (p + i < 128) × (i < k) ×
+        (k ≡ blocksFor (length (now bytes))) ⌝ }
+    ensures { λ _. ⌜ now (image .exit) ≡ setBlock (now (image .entry)) (p + i)
+        (sealBlock (now (key .entry)) id recording (p + i) (pieceAt (now (bytes .entry)) k i)) ⌝ }
 {
     let at = (p + i) * BLOCK_BYTES;
     let from = i * BLOCK_PAYLOAD;
@@ -145,8 +147,10 @@ fn lay_record(
     k: usize,
     image: &mut [u8],
 )
-    requires { ⌜ (length (now key) ≡ 24) × ((p + k) * 512 ≤ length (now image)) × (p + k ≤ 128) × (k ≡ blocksFor (length (now bytes))) ⌝ }
-    ensures { λ _. ⌜ now (image .exit) ≡ lay (now (key .entry)) id recording (now (image .entry)) p (blocks (rec (now (bytes .entry)))) ⌝ }
+    requires { ⌜ (length (now key) ≡ 24) × ((p + k) * 512 ≤ length (now image)) × (p + k ≤ 128) ×
+        (k ≡ blocksFor (length (now bytes))) ⌝ }
+    ensures { λ _. ⌜ now (image .exit) ≡ lay (now (key .entry)) id recording (now (image .entry)) p
+        (blocks (rec (now (bytes .entry)))) ⌝ }
 {
     for i in 0..k {
         lay_piece(key, id, recording, p, bytes, k, i, image);
@@ -156,7 +160,8 @@ fn lay_record(
 // Lays a block that has no payload, a file mark or end of data, at p.
 fn lay_empty(key: &[u8], id: u32, recording: u64, p: usize, kind: u8, image: &mut [u8])
     requires { ⌜ (length (now key) ≡ 24) × (p * 512 + 512 ≤ length (now image)) × (p < 128) × (1 ≤ kind) × (kind ≤ 4) ⌝ }
-    ensures { λ _. ⌜ now (image .exit) ≡ setBlock (now (image .entry)) p (blockOf (now (key .entry)) id recording p kind 0 []) ⌝ }
+    ensures { λ _. ⌜ now (image .exit) ≡ setBlock (now (image .entry)) p
+        (blockOf (now (key .entry)) id recording p kind 0 []) ⌝ }
 {
     let at = p * BLOCK_BYTES;
     block::seal_block(
@@ -231,7 +236,8 @@ impl WriterState {
 
     // Writes a record behind what is there: 1, 2, 8, 6, 4, 5. Refused, the given state comes back and the image stays.
     pub fn record(self, key: &[u8], bytes: &[u8], image: &mut [u8]) -> Wrote
-        ensures { λ r. ⌜ Did (write self (now (key .entry)) (now (image .entry)) (rec (now (bytes .entry)))) r (now (image .exit)) ⌝ }
+        ensures { λ r. ⌜ Did (write self (now (key .entry)) (now (image .entry)) (rec (now (bytes .entry)))) r
+            (now (image .exit)) ⌝ }
     {
         let number = self.record_number(key, bytes, image);
         if number != DONE {
