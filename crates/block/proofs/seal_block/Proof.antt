@@ -55,6 +55,9 @@ same-length c = search needs
 returns-6 : tie.Need-returns-6
 unfolding sealBlockNumber keyOk
 returns-6 c =
+    let at-payload-of = c .before .before .before .before .before .before .before in
+    let at-header-of = at-payload-of .before in
+    let at-flag-number = at-header-of .before in
     let k = c .before .before .before .before .before .before .before .before .before .before in
     let i = k .nonce-at in
     let w = k .before in
@@ -63,7 +66,7 @@ returns-6 c =
     (rw (eq-eqb _ _ (w .before .before .before .before .if1 .left), le-leb _ _ (w .before .before .before .if2 .left), le-leb _ _ (w .before .before .if3 .left), le-leb _ _ (w .before .if4 .left), le-leb (a .kind) 4 (omega (arith, w .if5 .left))))
     (c .before .before .seal-parts .ensures ∙ ap (splice (a .part .now) 0)
     (block-made (a .key .now) (a .id) (a .recording) (a .p) (a .kind) (a .last) (a .bytes .now) (i .ensures)
-    (c .before .before .before .before .before .before .before .before .before .flag-number .ensures) (c .before .before .before .before .before .before .before .before .header-of .ensures) (c .before .before .before .before .before .before .before .payload-of .ensures)))
+    (at-flag-number .flag-number .ensures) (at-header-of .header-of .ensures) (at-payload-of .payload-of .ensures)))
 
 pub seal-block-spec : {M : Type 1} → statement M
 seal-block-spec =

@@ -35,15 +35,18 @@ double-requires-7 c κs = search needs
 returns : tie.Need-returns
 unfolding xor
 returns c =
-    let x = c .before .before .before .before .before .before .before .args in
+    let at-double2 = c .before .before .before .before .before in
+    let at-double = at-double2 .before in
+    let entry = at-double .before in
+    let x = entry .args in
     rw (
       c .double7 .ensures,
       c .before .double6 .ensures,
       c .before .before .double5 .ensures,
       c .before .before .before .double4 .ensures,
       c .before .before .before .before .double3 .ensures,
-      c .before .before .before .before .before .double2 .ensures,
-      c .before .before .before .before .before .before .double .ensures,
+      at-double2 .double2 .ensures,
+      at-double .double .ensures,
     )
     (seven (x .a) (x .b) (x .c) (x .d) (x .e) (x .f) (x .g) (x .h) ∙ column-by-bits firstRow⁻ _ 7)
 

@@ -86,11 +86,14 @@ cell-requires-8 c κs = search needs
 returns : tie.Need-returns
 unfolding rowAt
 returns c =
+    let at-cell3 = c .before .before .before .before .before in
+    let at-cell2 = at-cell3 .before in
+    let at-cell = at-cell2 .before in
     let at = c .before .before .before .before .before .before .before .before .before .before .before .before .before .before .before .before in
     row-is firstRow (rowAt (at .args .from .now) (at .args .i)) _ _ _ _ _ _ _ _ _
     (ap (λ (n : ℕ). getD (at .args .from .now) n 0) (sym (add-zero (at .args .i))))
-    (c .before .before .before .before .before .before .before .cell .ensures) (c .before .before .before .before .before .before .cell2 .ensures)
-    (c .before .before .before .before .before .cell3 .ensures) (c .before .before .before .before .cell4 .ensures)
+    (at-cell .cell .ensures) (at-cell2 .cell2 .ensures)
+    (at-cell3 .cell3 .ensures) (c .before .before .before .before .cell4 .ensures)
     (c .before .before .before .cell5 .ensures) (c .before .before .cell6 .ensures)
     (c .before .cell7 .ensures) (c .cell8 .ensures)
 

@@ -86,11 +86,14 @@ cell-back-requires-8 c κs = search needs
 returns : tie.Need-returns
 unfolding rowAt
 returns c =
+    let at-cell-back3 = c .before .before .before .before .before in
+    let at-cell-back2 = at-cell-back3 .before in
+    let at-cell-back = at-cell-back2 .before in
     let at = c .before .before .before .before .before .before .before .before .before .before .before .before .before .before .before .before .before in
     row-is firstRow⁻ (rowAt (at .args .from .now) (at .args .i)) _ _ _ _ _ _ _ _ _
     (ap (λ (n : ℕ). getD (at .args .from .now) n 0) (sym (add-zero (at .args .i))))
-    (c .before .before .before .before .before .before .before .cell-back .ensures) (c .before .before .before .before .before .before .cell-back2 .ensures)
-    (c .before .before .before .before .before .cell-back3 .ensures) (c .before .before .before .before .cell-back4 .ensures)
+    (at-cell-back .cell-back .ensures) (at-cell-back2 .cell-back2 .ensures)
+    (at-cell-back3 .cell-back3 .ensures) (c .before .before .before .before .cell-back4 .ensures)
     (c .before .before .before .cell-back5 .ensures) (c .before .before .cell-back6 .ensures)
     (c .before .cell-back7 .ensures) (c .cell-back8 .ensures)
 

@@ -30,7 +30,10 @@ same-length c = search needs
 
 returns-3 : tie.Need-returns-3
 unfolding round
-returns-3 c = keyed _ _ _ _ (c .before .before .before .before .before .before .before .before .before .before .if1 .left) (c .before .before .before .before .before .before .before .before .before .if2 .left) (cc)
+returns-3 c =
+    let at-if2 = c .before .before .before .before .before .before .before .before .before in
+    let at-if1 = at-if2 .before in
+    keyed _ _ _ _ (at-if1 .if1 .left) (at-if2 .if2 .left) (cc)
 
 pub round-spec : {M : Type 1} → statement M
 round-spec =
