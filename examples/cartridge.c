@@ -1,6 +1,6 @@
 /* Writes records until early warning, closes the cartridge, spoils a block and walks what is left.
  *
- *     cc -Iinclude examples/cartridge.c target/staticlib/libkit.a && ./a.out
+ *     cc -Iinclude examples/cartridge.c target/staticlib/libnotchbadger.a && ./a.out
  */
 #include <stdio.h>
 #include <string.h>
