@@ -1,3 +1,1 @@
--- What crosses to C.
-pub mod Crossing
-pub mod Unique
+-- What crosses to C: a folder for each room.

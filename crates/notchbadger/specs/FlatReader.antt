@@ -1,4 +1,4 @@
--- The answers of the reader, of spacing and of the report as numbers.
+-- The answers of the reader as numbers.
 use mathlib.Core.Path.{_≡_}
 use mathlib.Core.List.{List}
 use Prim.Native.Nat.{ℕ}
@@ -7,13 +7,8 @@ use Rattle.reader.specs.declared.Outcome.{Outcome}
 use Rattle.reader.specs.declared.Outcome.the-variants as o
 use Rattle.reader.specs.declared.Got.{Got}
 use Rattle.reader.specs.Reading.{numberOf, readGives, readLeaves, partOf, lookPart, lookPlace}
-use Rattle.survey.specs.declared.Spaced.{Spaced}
-use Rattle.survey.specs.declared.Spaced.the-variants as s
-use Rattle.survey.specs.declared.Tally.{Tally}
-use Rattle.notchbadger.specs.declared.NbGot.{NbGot}
-use Rattle.notchbadger.specs.declared.NbPart.{NbPart}
-use Rattle.notchbadger.specs.declared.NbSpaced.{NbSpaced}
-use Rattle.notchbadger.specs.declared.NbTally.{NbTally}
+use Rattle.notchbadger.specs.declared.reading.NbGot.{NbGot}
+use Rattle.notchbadger.specs.declared.reading.NbPart.{NbPart}
 
 -- 0 record, 1 mark, 2 end, 3 bad, 4 stray, 5 cut, 6 refused
 abbrev pub outcomeCode : Outcome → ℕ
@@ -48,13 +43,3 @@ recordPlace buffer n = record { offset = 0; length = length (partOf buffer n) }
 
 abbrev pub lookedAt : List ℕ → ℕ → NbPart
 lookedAt image p = record { offset = lookPlace image p; length = length (lookPart image p) }
-
--- 0 at, 1 short, 2 refused
-abbrev pub flatSpaced : Spaced → NbSpaced
-flatSpaced (s.At p) = record { kind = 0; number = 0; position = p; marks = 0 }
-flatSpaced (s.Short m p) = record { kind = 1; number = 0; position = p; marks = m }
-flatSpaced (s.Refused n p) = record { kind = 2; number = n; position = p; marks = 0 }
-
-abbrev pub flatTally : Tally → NbTally
-flatTally t =
-    record { number = t .number; records = t .records; marks = t .marks; ends = t .ends; bads = t .bads; strays = t .strays; cuts = t .cuts }

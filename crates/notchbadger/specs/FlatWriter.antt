@@ -12,7 +12,7 @@ use Rattle.writer.specs.declared.Reply.{Reply}
 use Rattle.writer.specs.declared.Reply.the-variants.{Plain, Warned, Refused}
 use Rattle.writer.specs.declared.Wrote.{Wrote}
 use Rattle.writer.specs.Writing.{numberOf, Done, answer}
-use Rattle.notchbadger.specs.declared.NbWrote.{NbWrote}
+use Rattle.notchbadger.specs.declared.writing.NbWrote.{NbWrote}
 
 -- 0 plain, 1 warned, 2 refused
 abbrev pub replyCode : Reply → ℕ
