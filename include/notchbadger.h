@@ -14,6 +14,9 @@
  * cannot see it, and sealing two messages so loses the secrecy of both. What
  * this asks of recording numbers stands at the writer.
  *
+ * The rule for states: give each call the state that the last one returned,
+ * never an older one.
+ *
  * A call returns a number, alone or in a struct, unless it says "no number": 0
  * when it was carried out, else the first cause in the order given at the
  * call. A refused call (any cause but 7) leaves all lent memory as it was. 7
@@ -139,14 +142,13 @@ uint8_t nb_open(const uint8_t *key, size_t key_len,
 /* The longest record, of 64 blocks. */
 #define NB_RECORD_MAX 31232
 
-/* The writer. Its state is the first six fields of nb_wrote; it comes back from
- * each call and is given to the next one, field by field. The library keeps
- * none of it.
+/* The writer. Its state goes in by value and comes back from each call:
+ * s = nb_record(s, ..).state. The library keeps none of it.
  *
  * The owner's duty: a recording number for each recording that the cartridge
  * id never had before under this key, also where an image is started anew; and
- * no call from a state that an accepted call has replaced. Going on from an
- * old saved state seals other bytes under nonces already used, and no call can
+ * the rule for states, at the top. Going on from a state that an accepted call
+ * has replaced seals other bytes under nonces already used, and no call can
  * see that.
  *
  * Causes, beside 2 (the key's length):
@@ -179,6 +181,10 @@ typedef struct {
     size_t zone;     /* of the early warning */
     size_t position; /* where the next item begins */
     uint8_t closed;  /* 0 or 1 */
+} nb_state;
+
+typedef struct {
+    nb_state state;
     uint8_t reply;
     uint8_t number; /* of a refusal, else 0 */
 } nb_wrote;
@@ -192,28 +198,23 @@ nb_wrote nb_start(uint32_t id, uint64_t recording, size_t zone,
 /* Writes a record of 1 to NB_RECORD_MAX bytes at the position, in blocks of
  * NB_BLOCK_PAYLOAD bytes, the last of which may be shorter. Warned exactly if
  * the position afterwards is above capacity - zone. 1, 2, 8, 6, 4, 5; refused,
- * the given state comes back. Writes its own blocks of the image, and only
- * when not refused. */
-nb_wrote nb_record(uint32_t id, uint64_t recording, size_t capacity, size_t zone,
-                   size_t position, uint8_t closed,
-                   const uint8_t *key, size_t key_len,
+ * the state comes back as it was given, every field of it. Writes its own
+ * blocks of the image, and only when not refused. */
+nb_wrote nb_record(nb_state state, const uint8_t *key, size_t key_len,
                    const uint8_t *bytes, size_t bytes_len,
                    uint8_t *image, size_t image_len);
 
 /* Writes a file mark, one block, at the position. 1, 2, 8, 6, 5; refused, the
- * given state comes back. Writes its own block of the image, and only when not
- * refused. */
-nb_wrote nb_mark(uint32_t id, uint64_t recording, size_t capacity, size_t zone,
-                 size_t position, uint8_t closed,
-                 const uint8_t *key, size_t key_len,
+ * state comes back as it was given. Writes its own block of the image, and
+ * only when not refused. */
+nb_wrote nb_mark(nb_state state, const uint8_t *key, size_t key_len,
                  uint8_t *image, size_t image_len);
 
 /* Writes the end of data, one block, at the position and closes the recording;
- * while it is open there is always room. 1, 2, 8, 6; refused, the given state
- * comes back. Writes its own block of the image, and only when not refused. */
-nb_wrote nb_close(uint32_t id, uint64_t recording, size_t capacity, size_t zone,
-                  size_t position, uint8_t closed,
-                  const uint8_t *key, size_t key_len,
+ * while it is open there is always room. 1, 2, 8, 6; refused, the state comes
+ * back as it was given. Writes its own block of the image, and only when not
+ * refused. */
+nb_wrote nb_close(nb_state state, const uint8_t *key, size_t key_len,
                   uint8_t *image, size_t image_len);
 
 /* The reader. It takes any image: a block opens at p only when it was sealed

@@ -12,6 +12,7 @@ use Rattle.writer.specs.declared.Reply.{Reply}
 use Rattle.writer.specs.declared.Reply.the-variants.{Plain, Warned, Refused}
 use Rattle.writer.specs.declared.Wrote.{Wrote}
 use Rattle.writer.specs.Writing.{numberOf, Done, answer}
+use Rattle.notchbadger.specs.declared.writing.NbState.{NbState}
 use Rattle.notchbadger.specs.declared.writing.NbWrote.{NbWrote}
 
 -- 0 plain, 1 warned, 2 refused
@@ -20,36 +21,43 @@ replyCode Plain = 0
 replyCode Warned = 1
 replyCode (Refused n) = 2
 
-abbrev pub flatWrote : Wrote → NbWrote
-flatWrote w =
+-- the fields of a state, out and in; its closed flag is 0 or 1
+abbrev pub flatState : WriterState → NbState
+flatState w =
     record {
-      id = w .state .id;
-      recording = w .state .recording;
-      capacity = w .state .capacity;
-      zone = w .state .zone;
-      position = w .state .position;
-      closed = flag (w .state .closed);
-      reply = replyCode (w .reply);
-      number = numberOf (w .reply);
+      id = w .id;
+      recording = w .recording;
+      capacity = w .capacity;
+      zone = w .zone;
+      position = w .position;
+      closed = flag (w .closed);
     }
 
--- a state from its numbers; its closed flag is 0 or 1
-abbrev pub stateOf : ℕ → ℕ → ℕ → ℕ → ℕ → ℕ → WriterState
-stateOf id recording capacity zone position closed =
-    record { id = id; recording = recording; capacity = capacity; zone = zone; position = position; closed = eqb closed 1 }
+abbrev pub stateOf : NbState → WriterState
+stateOf s =
+    record {
+      id = s .id;
+      recording = s .recording;
+      capacity = s .capacity;
+      zone = s .zone;
+      position = s .position;
+      closed = eqb (s .closed) 1;
+    }
 
--- any other flag is an unlawful state: 8, behind 1 and 2, and the numbers come back as they were given
+abbrev pub flatWrote : Wrote → NbWrote
+flatWrote w = record { state = flatState (w .state); reply = replyCode (w .reply); number = numberOf (w .reply) }
+
+-- any other flag is an unlawful state: 8, behind 1 and 2, and the state comes back as it was given
 unfoldable pub flagNumber : List ℕ → List ℕ → ℕ
 flagNumber key image = firstOf (imageOk image) 1 (firstOf (eqb (length key) 24) 2 8)
 
-abbrev pub given : ℕ → ℕ → ℕ → ℕ → ℕ → ℕ → ℕ → NbWrote
-given id recording capacity zone position closed n =
-    record { id = id; recording = recording; capacity = capacity; zone = zone; position = position; closed = closed; reply = 2; number = n }
+abbrev pub sentBack : NbState → ℕ → NbWrote
+sentBack s n = record { state = s; reply = 2; number = n }
 
--- what a call on a state's numbers promises, where d is what the writer does
-pub record FlatDid (id recording capacity zone position closed : ℕ) (key image : List ℕ) (d : Done) (r : NbWrote) (image′ : List ℕ) : Type 0 where
-  pub says : r ≡ pick (leb closed 1) (flatWrote (answer d)) (given id recording capacity zone position closed (flagNumber key image))
-  pub leaves : image′ ≡ pick (leb closed 1) (d .image) image
+-- what a call on a state promises, where d is what the writer does
+pub record FlatDid (s : NbState) (key image : List ℕ) (d : Done) (r : NbWrote) (image′ : List ℕ) : Type 0 where
+  pub says : r ≡ pick (leb (s .closed) 1) (flatWrote (answer d)) (sentBack s (flagNumber key image))
+  pub leaves : image′ ≡ pick (leb (s .closed) 1) (d .image) image
 
 pub record FlatStarted (d : Done) (r : NbWrote) (image′ : List ℕ) : Type 0 where
   pub says : r ≡ flatWrote (answer d)

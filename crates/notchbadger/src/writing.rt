@@ -1,21 +1,28 @@
-// The writer. Its state crosses as numbers; the closed flag is 0 or 1.
+// The writer. Its state crosses as one struct; the closed flag is 0 or 1.
 ghost use mathlib.Core.Path.{_≡_};
 ghost use Rattle.block.specs.Content.{flag};
 ghost use Rattle.writer.specs.Items.{rec, fmark};
 ghost use Rattle.writer.specs.Writing.{numberOf, start, write, close};
-ghost use Rattle.notchbadger.specs.FlatWriter.{flatWrote, replyCode, stateOf, flagNumber, given, FlatDid, FlatStarted};
+ghost use Rattle.notchbadger.specs.FlatWriter.{replyCode, flatState, stateOf, flatWrote};
+ghost use Rattle.notchbadger.specs.FlatWriter.{flagNumber, sentBack, FlatDid, FlatStarted};
 use writer::Reply;
 use writer::WriterState;
 use writer::Wrote;
 
+// ---- What crosses.
 #[repr(C)]
-pub struct NbWrote {
+pub struct NbState {
     pub id: u32,
     pub recording: u64,
     pub capacity: usize,
     pub zone: usize,
     pub position: usize,
     pub closed: u8,
+}
+
+#[repr(C)]
+pub struct NbWrote {
+    pub state: NbState,
     pub reply: u8,
     pub number: u8,
 }
@@ -46,41 +53,43 @@ fn flag_of(closed: bool) -> u8
     if closed { 1 } else { 0 }
 }
 
-fn flat(wrote: Wrote) -> NbWrote
-    ensures { λ r. ⌜ r ≡ flatWrote wrote ⌝ }
+fn flat_state(state: WriterState) -> NbState
+    ensures { λ r. ⌜ r ≡ flatState state ⌝ }
 {
-    let state = wrote.state;
-    let reply = wrote.reply;
-    NbWrote {
+    NbState {
         id: state.id,
         recording: state.recording,
         capacity: state.capacity,
         zone: state.zone,
         position: state.position,
         closed: flag_of(state.closed),
+    }
+}
+
+fn flat(wrote: Wrote) -> NbWrote
+    ensures { λ r. ⌜ r ≡ flatWrote wrote ⌝ }
+{
+    let was = wrote.state;
+    let reply = wrote.reply;
+    let state = flat_state(was);
+    NbWrote {
+        state,
         reply: reply_code(reply),
         number: reply_number(reply),
     }
 }
 
-// A state from its numbers, where the flag is 0 or 1.
-fn state_of(
-    id: u32,
-    recording: u64,
-    capacity: usize,
-    zone: usize,
-    position: usize,
-    closed: u8,
-) -> WriterState
-    ensures { λ r. ⌜ r ≡ stateOf id recording capacity zone position closed ⌝ }
+// The writer's state, where the flag is 0 or 1.
+fn state_of(state: NbState) -> WriterState
+    ensures { λ r. ⌜ r ≡ stateOf state ⌝ }
 {
     WriterState {
-        id,
-        recording,
-        capacity,
-        zone,
-        position,
-        closed: closed == 1,
+        id: state.id,
+        recording: state.recording,
+        capacity: state.capacity,
+        zone: state.zone,
+        position: state.position,
+        closed: state.closed == 1,
     }
 }
 
@@ -97,31 +106,18 @@ fn flag_number(key: &[u8], image: &[u8]) -> u8
     8
 }
 
-// The answer to it: its numbers as they were given.
-fn refused_flag(
-    id: u32,
-    recording: u64,
-    capacity: usize,
-    zone: usize,
-    position: usize,
-    closed: u8,
-    key: &[u8],
-    image: &[u8],
-) -> NbWrote
-    ensures { λ r. ⌜ r ≡ given id recording capacity zone position closed (flagNumber (now (key .entry)) (now (image .entry))) ⌝ }
+// The answer to it: the state as it was given.
+fn sent_back(state: NbState, key: &[u8], image: &[u8]) -> NbWrote
+    ensures { λ r. ⌜ r ≡ sentBack state (flagNumber (now (key .entry)) (now (image .entry))) ⌝ }
 {
     NbWrote {
-        id,
-        recording,
-        capacity,
-        zone,
-        position,
-        closed,
+        state,
         reply: 2,
         number: flag_number(key, image),
     }
 }
 
+// ---- The calls.
 #[no_mangle]
 pub extern "C" fn nb_start(id: u32, recording: u64, zone: usize, image: &mut [u8]) -> NbWrote
     ensures { λ r. ⌜ FlatStarted (start id recording zone (now (image .entry))) r (now (image .exit)) ⌝ }
@@ -130,62 +126,37 @@ pub extern "C" fn nb_start(id: u32, recording: u64, zone: usize, image: &mut [u8
 }
 
 #[no_mangle]
-pub extern "C" fn nb_record(
-    id: u32,
-    recording: u64,
-    capacity: usize,
-    zone: usize,
-    position: usize,
-    closed: u8,
-    key: &[u8],
-    bytes: &[u8],
-    image: &mut [u8],
-) -> NbWrote
-    ensures { λ r. ⌜ FlatDid id recording capacity zone position closed (now (key .entry)) (now (image .entry)) (write (stateOf id recording capacity zone position closed) (now (key .entry)) (now (image .entry)) (rec (now (bytes .entry)))) r (now (image .exit)) ⌝ }
+pub extern "C" fn nb_record(state: NbState, key: &[u8], bytes: &[u8], image: &mut [u8]) -> NbWrote
+    ensures { λ r. ⌜ FlatDid state (now (key .entry)) (now (image .entry))
+        (write (stateOf state) (now (key .entry)) (now (image .entry)) (rec (now (bytes .entry)))) r (now (image .exit)) ⌝ }
 {
-    if 1 < closed {
-        return refused_flag(id, recording, capacity, zone, position, closed, key, image);
+    if 1 < state.closed {
+        return sent_back(state, key, image);
     }
-    let state = state_of(id, recording, capacity, zone, position, closed);
-    flat(state.record(key, bytes, image))
+    let writer = state_of(state);
+    flat(writer.record(key, bytes, image))
 }
 
 #[no_mangle]
-pub extern "C" fn nb_mark(
-    id: u32,
-    recording: u64,
-    capacity: usize,
-    zone: usize,
-    position: usize,
-    closed: u8,
-    key: &[u8],
-    image: &mut [u8],
-) -> NbWrote
-    ensures { λ r. ⌜ FlatDid id recording capacity zone position closed (now (key .entry)) (now (image .entry)) (write (stateOf id recording capacity zone position closed) (now (key .entry)) (now (image .entry)) fmark) r (now (image .exit)) ⌝ }
+pub extern "C" fn nb_mark(state: NbState, key: &[u8], image: &mut [u8]) -> NbWrote
+    ensures { λ r. ⌜ FlatDid state (now (key .entry)) (now (image .entry))
+        (write (stateOf state) (now (key .entry)) (now (image .entry)) fmark) r (now (image .exit)) ⌝ }
 {
-    if 1 < closed {
-        return refused_flag(id, recording, capacity, zone, position, closed, key, image);
+    if 1 < state.closed {
+        return sent_back(state, key, image);
     }
-    let state = state_of(id, recording, capacity, zone, position, closed);
-    flat(state.mark(key, image))
+    let writer = state_of(state);
+    flat(writer.mark(key, image))
 }
 
 #[no_mangle]
-pub extern "C" fn nb_close(
-    id: u32,
-    recording: u64,
-    capacity: usize,
-    zone: usize,
-    position: usize,
-    closed: u8,
-    key: &[u8],
-    image: &mut [u8],
-) -> NbWrote
-    ensures { λ r. ⌜ FlatDid id recording capacity zone position closed (now (key .entry)) (now (image .entry)) (close (stateOf id recording capacity zone position closed) (now (key .entry)) (now (image .entry))) r (now (image .exit)) ⌝ }
+pub extern "C" fn nb_close(state: NbState, key: &[u8], image: &mut [u8]) -> NbWrote
+    ensures { λ r. ⌜ FlatDid state (now (key .entry)) (now (image .entry))
+        (close (stateOf state) (now (key .entry)) (now (image .entry))) r (now (image .exit)) ⌝ }
 {
-    if 1 < closed {
-        return refused_flag(id, recording, capacity, zone, position, closed, key, image);
+    if 1 < state.closed {
+        return sent_back(state, key, image);
     }
-    let state = state_of(id, recording, capacity, zone, position, closed);
-    flat(state.close(key, image))
+    let writer = state_of(state);
+    flat(writer.close(key, image))
 }

@@ -4,8 +4,8 @@ use borrow.Author.Needs.{needs}
 use Rattle.notchbadger.proofs.writing.flat.Statement.{statement}
 use Rattle.notchbadger.proofs.writing.flat.Tie as tie
 
-flag-of-requires : tie.Need-flag-of-requires
-flag-of-requires c κs = search needs
+flat-state-requires : tie.Need-flat-state-requires
+flat-state-requires c κs = search needs
 
 reply-code-requires : tie.Need-reply-code-requires
 reply-code-requires c κs = search needs
@@ -17,4 +17,4 @@ returns : tie.Need-returns
 returns c = cc
 
 pub flat-spec : {M : Type 1} → statement M
-flat-spec = tie.close (tie.spec flag-of-requires reply-code-requires reply-number-requires returns)
+flat-spec = tie.close (tie.spec flat-state-requires reply-code-requires reply-number-requires returns)

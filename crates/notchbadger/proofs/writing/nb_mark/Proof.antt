@@ -7,14 +7,14 @@ use Rattle.notchbadger.proofs.writing.Crossing.{other-flag, called}
 use Rattle.notchbadger.proofs.writing.nb_mark.Statement.{statement}
 use Rattle.notchbadger.proofs.writing.nb_mark.Tie as tie
 
-refused-flag-requires : tie.Need-refused-flag-requires
-refused-flag-requires c κs = search needs
+sent-back-requires : tie.Need-sent-back-requires
+sent-back-requires c κs = search needs
 
 same-length : tie.Need-same-length
 same-length c = search needs
 
 returns : tie.Need-returns
-returns c = other-flag (c .before .before .if1 .taken) (c .refused-flag .ensures)
+returns c = other-flag (c .before .before .if1 .taken) (c .sent-back .ensures)
 
 state-of-requires : tie.Need-state-of-requires
 state-of-requires c κs = search needs
@@ -30,7 +30,7 @@ same-length-2 c = search needs
 
 returns-2 : tie.Need-returns-2
 returns-2 c =
-    let at = c .before .before .before .before .before .before .before .before .before .args in
+    let at = c .before .before .before .before .before .before .before .before .before .before .args in
     called
     (λ s. write s (at .key .now) (at .image .now) fmark)
     (c .before .before .before .before .before .before .if1 .left)
@@ -42,7 +42,7 @@ pub nb-mark-spec : {M : Type 1} → statement M
 nb-mark-spec =
     tie.close
     (tie.spec
-    refused-flag-requires
+    sent-back-requires
     same-length
     returns
     state-of-requires

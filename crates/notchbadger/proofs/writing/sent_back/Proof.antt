@@ -1,0 +1,14 @@
+-- `notchbadger::writing::sent_back` meets its contract: the state, and the flag's number.
+-- Assumes nothing.
+use borrow.Author.Needs.{needs}
+use Rattle.notchbadger.proofs.writing.sent_back.Statement.{statement}
+use Rattle.notchbadger.proofs.writing.sent_back.Tie as tie
+
+flag-number-requires : tie.Need-flag-number-requires
+flag-number-requires c κs = search needs
+
+returns : tie.Need-returns
+returns c = cc
+
+pub sent-back-spec : {M : Type 1} → statement M
+sent-back-spec = tie.close (tie.spec flag-number-requires returns)
