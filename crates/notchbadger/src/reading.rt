@@ -9,7 +9,7 @@ use reader::Outcome;
 pub struct NbGot {
     pub outcome: u8,
     pub number: u8,
-    pub value: usize,
+    pub data: usize,
     pub next: usize,
 }
 
@@ -68,7 +68,7 @@ fn flat_got(got: Got) -> NbGot
     NbGot {
         outcome: outcome_code(outcome),
         number: outcome_number(outcome),
-        value: outcome_data(outcome),
+        data: outcome_data(outcome),
         next: got.next,
     }
 }
