@@ -139,7 +139,7 @@ static void starting(void)
     static const nb_state none = {0, 0, 0, 0, 0, 1};
     nb_wrote w = nb_start(1, 1, BLOCKS, image, sizeof image);
 
-    IS(refused(w, NB_WRONG_ZONE, none) && refused(record(w.state, 1), NB_WRONG_STATE, none));
+    IS(refused(w, NB_WRONG_ZONE, none) && refused(record(w.state, 1), NB_UNLAWFUL, none));
     IS(refused(nb_start(1, 1, 1, image, 3 * NB_BLOCK_BYTES), NB_WRONG_IMAGE, none));
     w = nb_start(1, 1, 3, image, sizeof image);
     IS(w.reply == NB_PLAIN && w.number == 0 && w.state.id == 1 && w.state.recording == 1 && w.state.capacity == BLOCKS);
@@ -180,15 +180,15 @@ static void unlawful(nb_state s)
     memcpy(before, image, sizeof before);
     for (i = 0; i < sizeof odd; i++) {
         s.closed = odd[i];
-        IS(refused(record(s, 1), NB_WRONG_STATE, s) && refused(mark(s), NB_WRONG_STATE, s) && refused(finish(s), NB_WRONG_STATE, s));
+        IS(refused(record(s, 1), NB_UNLAWFUL, s) && refused(mark(s), NB_UNLAWFUL, s) && refused(finish(s), NB_UNLAWFUL, s));
         IS(refused(nb_mark(s, key, 23, image, sizeof image), NB_WRONG_LENGTH, s));
         IS(refused(nb_close(s, key, 23, image, 100), NB_WRONG_IMAGE, s));
     }
     s.closed = 0;
-    IS(refused(finish(s), NB_WRONG_STATE, s) && refused(nb_record(s, key, 25, buffer, 1, image, sizeof image), NB_WRONG_LENGTH, s));
+    IS(refused(finish(s), NB_UNLAWFUL, s) && refused(nb_record(s, key, 25, buffer, 1, image, sizeof image), NB_WRONG_LENGTH, s));
     s.position = 0;
     s.closed = 1;
-    IS(refused(mark(s), NB_WRONG_STATE, s));
+    IS(refused(mark(s), NB_UNLAWFUL, s));
     IS(memcmp(before, image, sizeof before) == 0);
 }
 
@@ -221,9 +221,9 @@ static void reading(void)
     IS(nb_record_part(buffer, 4, 5).length == 0);
     IS(read_at(3, NB_RECORD_MAX).outcome == NB_GOT_MARK && read_at(2, NB_RECORD_MAX).outcome == NB_GOT_STRAY);
     IS(read_at(7, NB_RECORD_MAX).outcome == NB_GOT_END && read_at(7, NB_RECORD_MAX).next == 7);
-    IS(read_at(8, NB_RECORD_MAX).number == NB_WRONG_POSITION && read_at(0, NB_RECORD_MAX - 1).number == NB_WRONG_LENGTH);
+    IS(read_at(8, NB_RECORD_MAX).number == NB_UNLAWFUL && read_at(0, NB_RECORD_MAX - 1).number == NB_WRONG_LENGTH);
     IS(nb_look(image, sizeof image, 2).offset == 2 * NB_BLOCK_BYTES && nb_look(image, sizeof image, 2).length == NB_BLOCK_BYTES);
-    IS(nb_look_number(image, sizeof image, BLOCKS) == NB_WRONG_POSITION && nb_look(image, sizeof image, BLOCKS).length == 0);
+    IS(nb_look_number(image, sizeof image, BLOCKS) == NB_UNLAWFUL && nb_look(image, sizeof image, BLOCKS).length == 0);
     IS(nb_look_number(image, sizeof image, BLOCKS - 1) == NB_DONE && nb_look_number(image, 100, 0) == NB_WRONG_IMAGE);
     IS(spaced.kind == NB_SPACED_AT && spaced.position == 4);
     spaced = nb_space(key, sizeof key, 1, 1, image, sizeof image, 0, 2);
@@ -242,6 +242,7 @@ static void reading(void)
 int main(void)
 {
     IS(NB_IMAGE_FEWEST == 4 && NB_IMAGE_MOST == 128 && NB_RATE_BYTES == 32 && NB_DOMAIN_NONCE == 0x20 && NB_DOMAIN_DATA == 0x40);
+    IS(NB_RECORD_BLOCKS * NB_BLOCK_PAYLOAD == NB_RECORD_MAX);
     permutation();
     miniboxes();
     rounds();

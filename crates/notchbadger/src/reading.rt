@@ -2,9 +2,12 @@
 ghost use mathlib.Core.Path.{_≡_};
 ghost use Rattle.reader.specs.Reading.{numberOf, lookNumber};
 ghost use Rattle.notchbadger.specs.FlatReader.{outcomeCode, dataOf, flatGot, FlatRead, recordPlace, lookedAt};
+use numbers::BLOCK_BYTES;
+use numbers::DONE;
 use reader::Got;
 use reader::Outcome;
 
+// ---- What crosses.
 #[repr(C)]
 pub struct NbGot {
     pub outcome: u8,
@@ -19,17 +22,32 @@ pub struct NbPart {
     pub length: usize,
 }
 
+// An outcome's codes.
+pub const GOT_RECORD: u8 = 0;
+
+pub const GOT_MARK: u8 = 1;
+
+pub const GOT_END: u8 = 2;
+
+pub const GOT_BAD: u8 = 3;
+
+pub const GOT_STRAY: u8 = 4;
+
+pub const GOT_CUT: u8 = 5;
+
+pub const GOT_REFUSED: u8 = 6;
+
 fn outcome_code(outcome: Outcome) -> u8
     ensures { λ r. ⌜ r ≡ outcomeCode outcome ⌝ }
 {
     match outcome {
-        Outcome::Record(_) => 0,
-        Outcome::Mark => 1,
-        Outcome::End => 2,
-        Outcome::Bad => 3,
-        Outcome::Stray => 4,
-        Outcome::Cut(_) => 5,
-        Outcome::Refused(_) => 6,
+        Outcome::Record(_) => GOT_RECORD,
+        Outcome::Mark => GOT_MARK,
+        Outcome::End => GOT_END,
+        Outcome::Bad => GOT_BAD,
+        Outcome::Stray => GOT_STRAY,
+        Outcome::Cut(_) => GOT_CUT,
+        Outcome::Refused(_) => GOT_REFUSED,
     }
 }
 
@@ -37,12 +55,12 @@ fn outcome_number(outcome: Outcome) -> u8
     ensures { λ r. ⌜ r ≡ numberOf outcome ⌝ }
 {
     match outcome {
-        Outcome::Record(_) => 0,
-        Outcome::Mark => 0,
-        Outcome::End => 0,
-        Outcome::Bad => 0,
-        Outcome::Stray => 0,
-        Outcome::Cut(_) => 0,
+        Outcome::Record(_) => DONE,
+        Outcome::Mark => DONE,
+        Outcome::End => DONE,
+        Outcome::Bad => DONE,
+        Outcome::Stray => DONE,
+        Outcome::Cut(_) => DONE,
         Outcome::Refused(n) => n,
     }
 }
@@ -73,6 +91,7 @@ fn flat_got(got: Got) -> NbGot
     }
 }
 
+// ---- The calls.
 #[no_mangle]
 pub extern "C" fn nb_read(
     key: &[u8],
@@ -110,9 +129,9 @@ pub extern "C" fn nb_look(image: &[u8], p: usize) -> NbPart
     ensures { λ r. ⌜ r ≡ lookedAt (now (image .entry)) p ⌝ }
 {
     let part = reader::look(image, p);
-    if reader::look_number(image, p) == 0 {
+    if reader::look_number(image, p) == DONE {
         return NbPart {
-            offset: 512 * p,
+            offset: BLOCK_BYTES * p,
             length: part.len(),
         };
     }

@@ -3,9 +3,11 @@ ghost use mathlib.Core.Path.{_≡_};
 ghost use Rattle.survey.specs.Report.{reportOf};
 ghost use Rattle.survey.specs.Spacing.{spacing};
 ghost use Rattle.notchbadger.specs.FlatSurvey.{flatSpaced, flatTally};
+use numbers::DONE;
 use survey::Spaced;
 use survey::Tally;
 
+// ---- What crosses.
 #[repr(C)]
 pub struct NbSpaced {
     pub kind: u8,
@@ -25,24 +27,31 @@ pub struct NbTally {
     pub cuts: usize,
 }
 
+// The kinds of a spacing's answer.
+pub const SPACED_AT: u8 = 0;
+
+pub const SPACED_SHORT: u8 = 1;
+
+pub const SPACED_REFUSED: u8 = 2;
+
 fn flat_spaced(spaced: Spaced) -> NbSpaced
     ensures { λ r. ⌜ r ≡ flatSpaced spaced ⌝ }
 {
     match spaced {
         Spaced::At(position) => NbSpaced {
-            kind: 0,
-            number: 0,
+            kind: SPACED_AT,
+            number: DONE,
             position,
             marks: 0,
         },
         Spaced::Short(marks, position) => NbSpaced {
-            kind: 1,
-            number: 0,
+            kind: SPACED_SHORT,
+            number: DONE,
             position,
             marks,
         },
         Spaced::Refused(number, position) => NbSpaced {
-            kind: 2,
+            kind: SPACED_REFUSED,
             number,
             position,
             marks: 0,
@@ -64,6 +73,7 @@ fn flat_tally(tally: Tally) -> NbTally
     }
 }
 
+// ---- The calls.
 #[no_mangle]
 pub extern "C" fn nb_space(
     key: &[u8],

@@ -5,6 +5,11 @@ ghost use Rattle.writer.specs.Items.{rec, fmark};
 ghost use Rattle.writer.specs.Writing.{numberOf, start, write, close};
 ghost use Rattle.notchbadger.specs.FlatWriter.{replyCode, flatState, stateOf, flatWrote};
 ghost use Rattle.notchbadger.specs.FlatWriter.{flagNumber, sentBack, FlatDid, FlatStarted};
+use numbers::DONE;
+use numbers::KEY_BYTES;
+use numbers::UNLAWFUL;
+use numbers::WRONG_IMAGE;
+use numbers::WRONG_LENGTH;
 use writer::Reply;
 use writer::WriterState;
 use writer::Wrote;
@@ -27,13 +32,20 @@ pub struct NbWrote {
     pub number: u8,
 }
 
+// A reply's codes.
+pub const PLAIN: u8 = 0;
+
+pub const WARNED: u8 = 1;
+
+pub const REFUSED: u8 = 2;
+
 fn reply_code(reply: Reply) -> u8
     ensures { λ r. ⌜ r ≡ replyCode reply ⌝ }
 {
     match reply {
-        Reply::Plain => 0,
-        Reply::Warned => 1,
-        Reply::Refused(_) => 2,
+        Reply::Plain => PLAIN,
+        Reply::Warned => WARNED,
+        Reply::Refused(_) => REFUSED,
     }
 }
 
@@ -41,8 +53,8 @@ fn reply_number(reply: Reply) -> u8
     ensures { λ r. ⌜ r ≡ numberOf reply ⌝ }
 {
     match reply {
-        Reply::Plain => 0,
-        Reply::Warned => 0,
+        Reply::Plain => DONE,
+        Reply::Warned => DONE,
         Reply::Refused(n) => n,
     }
 }
@@ -98,12 +110,12 @@ fn flag_number(key: &[u8], image: &[u8]) -> u8
     ensures { λ r. ⌜ r ≡ flagNumber (now (key .entry)) (now (image .entry)) ⌝ }
 {
     if !block::is_image(image.len()) {
-        return 1;
+        return WRONG_IMAGE;
     }
-    if key.len() != 24 {
-        return 2;
+    if key.len() != KEY_BYTES {
+        return WRONG_LENGTH;
     }
-    8
+    UNLAWFUL
 }
 
 // The answer to it: the state as it was given.
@@ -112,7 +124,7 @@ fn sent_back(state: NbState, key: &[u8], image: &[u8]) -> NbWrote
 {
     NbWrote {
         state,
-        reply: 2,
+        reply: REFUSED,
         number: flag_number(key, image),
     }
 }
