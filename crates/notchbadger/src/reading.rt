@@ -110,10 +110,10 @@ pub extern "C" fn nb_read(
 pub extern "C" fn nb_record_part(buffer: &[u8], length: usize) -> NbPart
     ensures { λ r. ⌜ r ≡ recordPlace (now (buffer .entry)) length ⌝ }
 {
-    let part = reader::record_part(buffer, length);
+    let front = reader::record_part(buffer, length);
     NbPart {
         offset: 0,
-        length: part.len(),
+        length: front.len(),
     }
 }
 
