@@ -31,9 +31,16 @@ dataOf (o.Cut q) = q
 dataOf (o.Refused n) = 0
 
 abbrev pub flatGot : Got → NbGot
-flatGot g = record { outcome = outcomeCode (g .outcome); number = numberOf (g .outcome); «data» = dataOf (g .outcome); next = g .next }
+flatGot g =
+    record {
+      outcome = outcomeCode (g .outcome);
+      number = numberOf (g .outcome);
+      «data» = dataOf (g .outcome);
+      next = g .next;
+    }
 
-pub record FlatRead (key : List ℕ) (id recording : ℕ) (image : List ℕ) (p : ℕ) (buffer : List ℕ) (r : NbGot) (buffer′ : List ℕ) : Type 0 where
+pub record FlatRead (key : List ℕ) (id recording : ℕ) (image : List ℕ) (p : ℕ) (buffer : List ℕ)
+    (r : NbGot) (buffer′ : List ℕ) : Type 0 where
   pub says : r ≡ flatGot (readGives key id recording image p (length buffer))
   pub leaves : buffer′ ≡ readLeaves key id recording image p buffer
 

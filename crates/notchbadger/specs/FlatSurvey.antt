@@ -13,4 +13,12 @@ flatSpaced (s.Refused n p) = record { kind = 2; number = n; position = p; marks 
 
 abbrev pub flatTally : Tally → NbTally
 flatTally t =
-    record { number = t .number; records = t .records; marks = t .marks; ends = t .ends; bads = t .bads; strays = t .strays; cuts = t .cuts }
+    record {
+      number = t .number;
+      records = t .records;
+      marks = t .marks;
+      ends = t .ends;
+      bads = t .bads;
+      strays = t .strays;
+      cuts = t .cuts;
+    }

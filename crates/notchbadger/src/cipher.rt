@@ -51,21 +51,24 @@ pub extern "C" fn nb_put(state: &mut [u8], bytes: &[u8], domain: u8) -> u8
 
 #[no_mangle]
 pub extern "C" fn nb_get(state: &mut [u8], out: &mut [u8], domain: u8) -> u8
-    ensures { λ r. ⌜ Ran get domain (now (out .entry)) (now (state .entry)) (now (out .entry)) r (now (state .exit)) (now (out .exit)) ⌝ }
+    ensures { λ r. ⌜ Ran get domain (now (out .entry)) (now (state .entry)) (now (out .entry))
+        r (now (state .exit)) (now (out .exit)) ⌝ }
 {
     sponge::get(state, out, domain)
 }
 
 #[no_mangle]
 pub extern "C" fn nb_enc(state: &mut [u8], message: &[u8], out: &mut [u8], domain: u8) -> u8
-    ensures { λ r. ⌜ Ran enc domain (now (message .entry)) (now (state .entry)) (now (out .entry)) r (now (state .exit)) (now (out .exit)) ⌝ }
+    ensures { λ r. ⌜ Ran enc domain (now (message .entry)) (now (state .entry)) (now (out .entry))
+        r (now (state .exit)) (now (out .exit)) ⌝ }
 {
     sponge::enc(state, message, out, domain)
 }
 
 #[no_mangle]
 pub extern "C" fn nb_dec(state: &mut [u8], cipher: &[u8], out: &mut [u8], domain: u8) -> u8
-    ensures { λ r. ⌜ Ran dec domain (now (cipher .entry)) (now (state .entry)) (now (out .entry)) r (now (state .exit)) (now (out .exit)) ⌝ }
+    ensures { λ r. ⌜ Ran dec domain (now (cipher .entry)) (now (state .entry)) (now (out .entry))
+        r (now (state .exit)) (now (out .exit)) ⌝ }
 {
     sponge::dec(state, cipher, out, domain)
 }
@@ -79,7 +82,8 @@ pub extern "C" fn nb_seal(
     message: &[u8],
     out: &mut [u8],
 ) -> u8
-    ensures { λ r. ⌜ Sealed (now (key .entry)) (now (nonce .entry)) (now (associated .entry)) (now (message .entry)) (now (out .entry)) r (now (out .exit)) ⌝ }
+    ensures { λ r. ⌜ Sealed (now (key .entry)) (now (nonce .entry)) (now (associated .entry)) (now (message .entry))
+        (now (out .entry)) r (now (out .exit)) ⌝ }
 {
     aead::seal(key, nonce, associated, message, out)
 }
@@ -92,7 +96,8 @@ pub extern "C" fn nb_open(
     sealed: &[u8],
     out: &mut [u8],
 ) -> u8
-    ensures { λ r. ⌜ Opened (now (key .entry)) (now (nonce .entry)) (now (associated .entry)) (now (sealed .entry)) (now (out .entry)) r (now (out .exit)) ⌝ }
+    ensures { λ r. ⌜ Opened (now (key .entry)) (now (nonce .entry)) (now (associated .entry)) (now (sealed .entry))
+        (now (out .entry)) r (now (out .exit)) ⌝ }
 {
     aead::open(key, nonce, associated, sealed, out)
 }

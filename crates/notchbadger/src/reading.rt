@@ -101,7 +101,8 @@ pub extern "C" fn nb_read(
     p: usize,
     buffer: &mut [u8],
 ) -> NbGot
-    ensures { λ r. ⌜ FlatRead (now (key .entry)) id recording (now (image .entry)) p (now (buffer .entry)) r (now (buffer .exit)) ⌝ }
+    ensures { λ r. ⌜ FlatRead (now (key .entry)) id recording (now (image .entry)) p (now (buffer .entry))
+        r (now (buffer .exit)) ⌝ }
 {
     flat_got(reader::read(key, id, recording, image, p, buffer))
 }

@@ -140,7 +140,8 @@ pub extern "C" fn nb_start(id: u32, recording: u64, zone: usize, image: &mut [u8
 #[no_mangle]
 pub extern "C" fn nb_record(state: NbState, key: &[u8], bytes: &[u8], image: &mut [u8]) -> NbWrote
     ensures { λ r. ⌜ FlatDid state (now (key .entry)) (now (image .entry))
-        (write (stateOf state) (now (key .entry)) (now (image .entry)) (rec (now (bytes .entry)))) r (now (image .exit)) ⌝ }
+        (write (stateOf state) (now (key .entry)) (now (image .entry)) (rec (now (bytes .entry))))
+        r (now (image .exit)) ⌝ }
 {
     if 1 < state.closed {
         return sent_back(state, key, image);

@@ -34,7 +34,8 @@ pub permute-unique : (κs : Lfts 1) (a : Dens κs permute-kinds.ps) (r₁ r₂ :
     → permute.Post κs a r₁ s₁ → permute.Post κs a r₂ s₂ → (r₁ ≡ r₂) × (now (s₁ .0) ≡ now (s₂ .0))
 permute-unique κs a r₁ r₂ s₁ s₂ p q = (p .code ∙ sym (q .code), p .state ∙ sym (q .state))
 
-pub permute-back-unique : (κs : Lfts 1) (a : Dens κs permute-back-kinds.ps) (r₁ r₂ : resT permute-back-kinds.r κs .Denot)
+pub permute-back-unique : (κs : Lfts 1) (a : Dens κs permute-back-kinds.ps)
+    (r₁ r₂ : resT permute-back-kinds.r κs .Denot)
     (s₁ s₂ : AtExit (endedOf 1 permute-back-kinds.ps permute-back-kinds.r) κs)
     → permute-back.Post κs a r₁ s₁ → permute-back.Post κs a r₂ s₂ → (r₁ ≡ r₂) × (now (s₁ .0) ≡ now (s₂ .0))
 permute-back-unique κs a r₁ r₂ s₁ s₂ p q = (p .code ∙ sym (q .code), p .state ∙ sym (q .state))

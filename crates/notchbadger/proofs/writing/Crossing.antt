@@ -15,10 +15,14 @@ module _ {s : NbState} {key image : List ℕ} {r : NbWrote} where
   pub other-flag : {d : Done} → 1 < s .closed → r ≡ sentBack s (flagNumber key image) → FlatDid s key image d r image
   other-flag h e = record { says = rw (lt-leb (s .closed) 1 h) e; leaves = rw (lt-leb (s .closed) 1 h) }
 
-  pub called : (does : WriterState → Done) {t : WriterState} {w : Wrote} {image′ : List ℕ} → s .closed ≤ 1 → t ≡ stateOf s
-      → Did (does t) w image′ → r ≡ flatWrote w → FlatDid s key image (does (stateOf s)) r image′
+  pub called : (does : WriterState → Done) {t : WriterState} {w : Wrote} {image′ : List ℕ} → s .closed ≤ 1
+      → t ≡ stateOf s → Did (does t) w image′ → r ≡ flatWrote w → FlatDid s key image (does (stateOf s)) r image′
   called does h q c e =
-      record { says = rw (le-leb (s .closed) 1 h, ← q) (e ∙ ap flatWrote (c .says)); leaves = rw (le-leb (s .closed) 1 h, ← q) (c .leaves) }
+      record {
+        says = rw (le-leb (s .closed) 1 h, ← q) (e ∙ ap flatWrote (c .says));
+        leaves = rw (le-leb (s .closed) 1 h, ← q) (c .leaves);
+      }
 
-pub began : {d : Done} {w : Wrote} {r : NbWrote} {image′ : List ℕ} → Did d w image′ → r ≡ flatWrote w → FlatStarted d r image′
+pub began : {d : Done} {w : Wrote} {r : NbWrote} {image′ : List ℕ} → Did d w image′ → r ≡ flatWrote w
+    → FlatStarted d r image′
 began c e = record { says = e ∙ ap flatWrote (c .says); leaves = c .leaves }

@@ -21,10 +21,12 @@ mul-t6 c =
     omega (arith, look-in (at .image .now) (at .p) (sym (c .before .look-number .ensures) ∙ c .if1 .taken))
 
 returns : tie.Need-returns
-returns c = look-taken _ _ (c .before .look-number .ensures) (c .if1 .taken) (ap length (c .before .before .look .ensures .0))
+returns c =
+    look-taken _ _ (c .before .look-number .ensures) (c .if1 .taken) (ap length (c .before .before .look .ensures .0))
 
 returns-2 : tie.Need-returns-2
-returns-2 c = look-refused _ _ (c .before .look-number .ensures) (c .if1 .left) (ap length (c .before .before .look .ensures .0))
+returns-2 c =
+    look-refused _ _ (c .before .look-number .ensures) (c .if1 .left) (ap length (c .before .before .look .ensures .0))
 
 pub nb-look-spec : {M : Type 1} → statement M
 nb-look-spec = tie.close (tie.spec look-requires look-number-requires mul-t6 returns returns-2)

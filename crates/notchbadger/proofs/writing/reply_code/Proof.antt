@@ -12,4 +12,10 @@ warned c = sym (ap replyCode (c .enum-told2 .given .1))
 pub reply-code-spec : {M : Type 1} → statement M
 reply-code-spec =
     tie.close
-    (tie.spec (λ c. search needs) (λ c. search needs) (λ c. search needs) (λ c. search needs) warned (λ c. search needs))
+    (tie.spec
+    (λ c. search needs)
+    (λ c. search needs)
+    (λ c. search needs)
+    (λ c. search needs)
+    warned
+    (λ c. search needs))
