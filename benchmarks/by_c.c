@@ -8,7 +8,7 @@
 #define KEY side_key, sizeof side_key
 #define NONCE side_nonce, sizeof side_nonce
 
-static const struct threading threading = {KEY, SIDE_ID, SIDE_RECORDING};
+static const struct identity identity = {KEY, SIDE_ID, SIDE_RECORDING};
 
 static struct writer open_at(size_t position)
 {
@@ -60,7 +60,7 @@ size_t side_close(size_t position, uint8_t *image)
 
 unsigned side_read(const uint8_t *image, size_t p, uint8_t *buffer, size_t *data, size_t *next)
 {
-    struct answer answer = reader_read(&threading, image, IMAGE_BYTES, p, buffer, BUFFER_BYTES);
+    struct answer answer = reader_read(&identity, image, IMAGE_BYTES, p, buffer, BUFFER_BYTES);
 
     *data = answer.data;
     *next = answer.next;
@@ -69,7 +69,7 @@ unsigned side_read(const uint8_t *image, size_t p, uint8_t *buffer, size_t *data
 
 void side_report(const uint8_t *image, size_t counts[6])
 {
-    struct report report = reader_report(&threading, image, IMAGE_BYTES);
+    struct report report = reader_report(&identity, image, IMAGE_BYTES);
 
     for (int i = 0; i < 6; i++)
         counts[i] = report.counts[i];

@@ -4,7 +4,13 @@
 
 #define KEY side_key, sizeof side_key
 #define NONCE side_nonce, sizeof side_nonce
-#define OPEN_AT(position) SIDE_ID, SIDE_RECORDING, SIDE_CAPACITY, SIDE_ZONE, position, 0
+
+static nb_state open_at(size_t position)
+{
+    nb_state state = {SIDE_ID, SIDE_RECORDING, SIDE_CAPACITY, SIDE_ZONE, position, 0};
+
+    return state;
+}
 
 void side_permute(uint8_t state[64])
 {
@@ -28,22 +34,22 @@ unsigned side_open(const uint8_t *sealed, size_t n, uint8_t *message)
 
 size_t side_start(uint8_t *image)
 {
-    return nb_start(SIDE_ID, SIDE_RECORDING, SIDE_ZONE, image, IMAGE_BYTES).position;
+    return nb_start(SIDE_ID, SIDE_RECORDING, SIDE_ZONE, image, IMAGE_BYTES).state.position;
 }
 
 size_t side_record(size_t position, const uint8_t *bytes, size_t n, uint8_t *image)
 {
-    return nb_record(OPEN_AT(position), KEY, bytes, n, image, IMAGE_BYTES).position;
+    return nb_record(open_at(position), KEY, bytes, n, image, IMAGE_BYTES).state.position;
 }
 
 size_t side_mark(size_t position, uint8_t *image)
 {
-    return nb_mark(OPEN_AT(position), KEY, image, IMAGE_BYTES).position;
+    return nb_mark(open_at(position), KEY, image, IMAGE_BYTES).state.position;
 }
 
 size_t side_close(size_t position, uint8_t *image)
 {
-    return nb_close(OPEN_AT(position), KEY, image, IMAGE_BYTES).position;
+    return nb_close(open_at(position), KEY, image, IMAGE_BYTES).state.position;
 }
 
 unsigned side_read(const uint8_t *image, size_t p, uint8_t *buffer, size_t *data, size_t *next)

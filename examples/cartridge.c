@@ -1,6 +1,6 @@
 /* Writes records until early warning, closes the cartridge, spoils a block and walks what is left.
  *
- *     cc -Iinclude examples/cartridge.c target/staticlib/libkit.a && ./a.out
+ *     cc -Iinclude examples/cartridge.c target/staticlib/libnotchbadger.a && ./a.out
  */
 #include <stdio.h>
 #include <string.h>
@@ -17,11 +17,6 @@
 static uint8_t image[BLOCKS * NB_BLOCK_BYTES], buffer[NB_RECORD_MAX];
 static const uint8_t key[NB_KEY_BYTES] = "192-bit Secret Key value";
 
-static nb_wrote write_record(nb_wrote s, const uint8_t *bytes, size_t n)
-{
-    return nb_record(s.id, s.recording, s.capacity, s.zone, s.position, s.closed, key, sizeof key, bytes, n, image, sizeof image);
-}
-
 static void walk(void)
 {
     static const char *const names[] = {"record", "mark", "end", "bad", "stray", "cut"};
@@ -37,15 +32,15 @@ static void walk(void)
 int main(void)
 {
     uint8_t bytes[600];
-    nb_wrote s = nb_start(ID, RECORDING, ZONE, image, sizeof image);
+    nb_wrote wrote = nb_start(ID, RECORDING, ZONE, image, sizeof image);
 
     memset(bytes, 0x5A, sizeof bytes);
     do {
-        s = write_record(s, bytes, sizeof bytes);
-        printf("record at %u: %s\n", (unsigned)s.position, s.reply == NB_WARNED ? "warned" : "plain");
-    } while (s.reply == NB_PLAIN);
-    s = nb_close(s.id, s.recording, s.capacity, s.zone, s.position, s.closed, key, sizeof key, image, sizeof image);
-    printf("closed at %u\n", (unsigned)s.position);
+        wrote = nb_record(wrote.state, key, sizeof key, bytes, sizeof bytes, image, sizeof image);
+        printf("record at %u: %s\n", (unsigned)wrote.state.position, wrote.reply == NB_WARNED ? "warned" : "plain");
+    } while (wrote.reply == NB_PLAIN);
+    wrote = nb_close(wrote.state, key, sizeof key, image, sizeof image);
+    printf("closed at %u\n", (unsigned)wrote.state.position);
     image[2 * NB_BLOCK_BYTES + 40] ^= 1;
     walk();
     return 0;

@@ -1,6 +1,6 @@
 /* Seals a capture and opens it again; then a byte is damaged, and it opens no more.
  *
- *     cc -Iinclude examples/seal.c target/staticlib/libkit.a && ./a.out
+ *     cc -Iinclude examples/seal.c target/staticlib/libnotchbadger.a && ./a.out
  */
 #include <stdio.h>
 #include <string.h>

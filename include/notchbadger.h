@@ -14,15 +14,13 @@
  * cannot see it, and sealing two messages so loses the secrecy of both. What
  * this asks of recording numbers stands at the writer.
  *
- * A call returns a number, alone or in a struct, unless it says "no number": 0
- * when it was carried out, else the first cause in the order given at the
- * call. A refused call (any cause but 7) leaves all lent memory as it was. 7
- * leaves the receiving buffer all zero. The causes up to nb_open:
- *   2  a key, nonce or receiving buffer of wrong length, a state or round key
- *      that is not 64 bytes, sealed bytes under 16
- *   7  the tag does not fit
- *   9  associated data or message above its limit; a block operation on more
- *      than 65,536 bytes
+ * The rule for states: give each call the state that the last one returned,
+ * never an older one.
+ *
+ * A call returns a number, alone or in a struct, unless it says "no number":
+ * NB_DONE when it was carried out, else the first cause in the order given at
+ * the call. A refused call (any cause but 7) leaves all lent memory as it was.
+ * 7 leaves the receiving buffer all zero.
  */
 #ifndef NOTCHBADGER_H
 #define NOTCHBADGER_H
@@ -34,6 +32,24 @@
 extern "C" {
 #endif
 
+/* The numbers. The c of an image is how many blocks it has. */
+#define NB_DONE 0
+#define NB_WRONG_IMAGE 1  /* an image that is not 4 to 128 whole blocks */
+#define NB_WRONG_LENGTH 2 /* a key, a nonce or a buffer of a wrong length */
+#define NB_WRONG_ZONE 3   /* a warning zone outside 1 to c - 1 */
+#define NB_WRONG_RECORD 4 /* a record of no bytes or above NB_RECORD_MAX */
+#define NB_NO_ROOM 5      /* an item that does not fit before the held block */
+#define NB_CLOSED 6       /* a recording that is closed */
+#define NB_WRONG_TAG 7    /* a tag that does not fit */
+#define NB_UNLAWFUL 8     /* a position or a state not lawful for the image */
+#define NB_ABOVE_LIMIT 9  /* more bytes than the longest that is taken */
+
+/* Sealing, and what it is made of. Causes up to nb_open, beside 7:
+ *   2  a key, nonce or receiving buffer of wrong length, a state or round key
+ *      that is not 64 bytes, sealed bytes under 16
+ *   9  associated data or message above its limit; a block operation on more
+ *      than NB_OPERATION_MAX bytes
+ */
 #define NB_STATE_BYTES 64
 #define NB_RATE_BYTES 32
 #define NB_KEY_BYTES 24
@@ -51,11 +67,6 @@ extern "C" {
 #define NB_DOMAIN_DATA 0x40
 #define NB_DOMAIN_MESSAGE 0x50
 #define NB_DOMAIN_TAG 0x60
-
-#define NB_DONE 0
-#define NB_WRONG_LENGTH 2
-#define NB_WRONG_TAG 7
-#define NB_ABOVE_LIMIT 9
 
 /* Runs the permutation over the state, in place. 2. Writes the state alone,
  * and only when it returns 0. */
@@ -136,36 +147,24 @@ uint8_t nb_open(const uint8_t *key, size_t key_len,
 #define NB_IMAGE_FEWEST 4
 #define NB_IMAGE_MOST 128
 
-/* The longest record, of 64 blocks. */
+/* The longest record, in bytes and in blocks. */
 #define NB_RECORD_MAX 31232
+#define NB_RECORD_BLOCKS 64
 
-/* The writer. Its state is the first six fields of nb_wrote; it comes back from
- * each call and is given to the next one, field by field. The library keeps
- * none of it.
+/* The writer. Its state goes in by value and comes back from each call:
+ * s = nb_record(s, ..).state. The library keeps none of it.
  *
  * The owner's duty: a recording number for each recording that the cartridge
  * id never had before under this key, also where an image is started anew; and
- * no call from a state that an accepted call has replaced. Going on from an
- * old saved state seals other bytes under nonces already used, and no call can
+ * the rule for states, at the top. Going on from a state that an accepted call
+ * has replaced seals other bytes under nonces already used, and no call can
  * see that.
  *
- * Causes, beside 2 (the key's length):
- *   1  an image that is not 4 to 128 whole blocks
- *   3  a warning zone outside 1 to c - 1
- *   4  a record of no bytes or of more than NB_RECORD_MAX
- *   5  an item that does not fit before the last block, which is held for the
- *      end of data
- *   6  a recording that is closed
- *   8  a state that is not lawful for the image: its capacity is not c, its
- *      zone is outside 1 to c - 1, its position is above c - 1 while open, or
- *      is 0 or above c when closed, or closed is neither 0 nor 1
- * The id, the recording number and the bytes of the image are not looked at. */
-#define NB_WRONG_IMAGE 1
-#define NB_WRONG_ZONE 3
-#define NB_WRONG_RECORD 4
-#define NB_NO_ROOM 5
-#define NB_CLOSED 6
-#define NB_WRONG_STATE 8
+ * 2 is the key's length; 5 keeps the last block free, which is held for the end
+ * of data. 8 is a state that is not lawful for the image: its capacity is not
+ * c, its zone is outside 1 to c - 1, its position is above c - 1 while open, or
+ * is 0 or above c when closed, or closed is neither 0 nor 1. The id, the
+ * recording number and the bytes of the image are not looked at. */
 
 /* nb_wrote's reply. Only a record can be warned. */
 #define NB_PLAIN 0
@@ -179,6 +178,10 @@ typedef struct {
     size_t zone;     /* of the early warning */
     size_t position; /* where the next item begins */
     uint8_t closed;  /* 0 or 1 */
+} nb_state;
+
+typedef struct {
+    nb_state state;
     uint8_t reply;
     uint8_t number; /* of a refusal, else 0 */
 } nb_wrote;
@@ -192,39 +195,29 @@ nb_wrote nb_start(uint32_t id, uint64_t recording, size_t zone,
 /* Writes a record of 1 to NB_RECORD_MAX bytes at the position, in blocks of
  * NB_BLOCK_PAYLOAD bytes, the last of which may be shorter. Warned exactly if
  * the position afterwards is above capacity - zone. 1, 2, 8, 6, 4, 5; refused,
- * the given state comes back. Writes its own blocks of the image, and only
- * when not refused. */
-nb_wrote nb_record(uint32_t id, uint64_t recording, size_t capacity, size_t zone,
-                   size_t position, uint8_t closed,
-                   const uint8_t *key, size_t key_len,
+ * the state comes back as it was given, every field of it. Writes its own
+ * blocks of the image, and only when not refused. */
+nb_wrote nb_record(nb_state state, const uint8_t *key, size_t key_len,
                    const uint8_t *bytes, size_t bytes_len,
                    uint8_t *image, size_t image_len);
 
 /* Writes a file mark, one block, at the position. 1, 2, 8, 6, 5; refused, the
- * given state comes back. Writes its own block of the image, and only when not
- * refused. */
-nb_wrote nb_mark(uint32_t id, uint64_t recording, size_t capacity, size_t zone,
-                 size_t position, uint8_t closed,
-                 const uint8_t *key, size_t key_len,
+ * state comes back as it was given. Writes its own block of the image, and
+ * only when not refused. */
+nb_wrote nb_mark(nb_state state, const uint8_t *key, size_t key_len,
                  uint8_t *image, size_t image_len);
 
 /* Writes the end of data, one block, at the position and closes the recording;
- * while it is open there is always room. 1, 2, 8, 6; refused, the given state
- * comes back. Writes its own block of the image, and only when not refused. */
-nb_wrote nb_close(uint32_t id, uint64_t recording, size_t capacity, size_t zone,
-                  size_t position, uint8_t closed,
-                  const uint8_t *key, size_t key_len,
+ * while it is open there is always room. 1, 2, 8, 6; refused, the state comes
+ * back as it was given. Writes its own block of the image, and only when not
+ * refused. */
+nb_wrote nb_close(nb_state state, const uint8_t *key, size_t key_len,
                   uint8_t *image, size_t image_len);
 
 /* The reader. It takes any image: a block opens at p only when it was sealed
- * under this key, id and recording number for place p and is lawful.
- *
- * Causes:
- *   1  an image that is not 4 to 128 whole blocks
- *   2  a key of wrong length; at nb_read also a buffer under NB_RECORD_MAX
- *   8  a position of c or more
- */
-#define NB_WRONG_POSITION 8
+ * under this key, id and recording number for place p and is lawful. 2 is the
+ * key's length, at nb_read also a buffer under NB_RECORD_MAX; 8 is a position
+ * of c or more. */
 
 /* nb_got's outcome. */
 #define NB_GOT_RECORD 0
@@ -273,10 +266,10 @@ typedef struct {
 /* Reads at position p. Next is the block behind what was read; at the end of
  * data it is p; after a cut it is the place of the cut, or the block behind
  * it where the block there does not open. A record is cut where the image
- * ends, after 64 blocks without its last, at a block that does not open and at
- * one of another kind. 1, 2, 8; refused, next is p. Writes the first
- * NB_RECORD_MAX bytes of the buffer, and only when not refused: a record and
- * zeros behind it, or zeros alone. */
+ * ends, after NB_RECORD_BLOCKS blocks without its last, at a block that does
+ * not open and at one of another kind. 1, 2, 8; refused, next is p. Writes the
+ * first NB_RECORD_MAX bytes of the buffer, and only when not refused: a record
+ * and zeros behind it, or zeros alone. */
 nb_got nb_read(const uint8_t *key, size_t key_len, uint32_t id, uint64_t recording,
                const uint8_t *image, size_t image_len, size_t p,
                uint8_t *buffer, size_t buffer_len);

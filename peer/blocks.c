@@ -32,10 +32,10 @@ static uint64_t take_number(const uint8_t *at, int bytes)
 }
 
 static void make_nonce(uint8_t nonce[SEAL_NONCE],
-                       const struct threading *threading, uint32_t number)
+                       const struct identity *identity, uint32_t number)
 {
-    put_number(nonce, threading->cartridge, 4);
-    put_number(nonce + 4, threading->recording, 8);
+    put_number(nonce, identity->cartridge, 4);
+    put_number(nonce + 4, identity->recording, 8);
     put_number(nonce + 12, number, 4);
 }
 
@@ -64,31 +64,31 @@ bool block_lawful(const struct block *block)
     }
 }
 
-void block_seal(uint8_t *place, const struct threading *threading,
+void block_seal(uint8_t *place, const struct identity *identity,
                 uint32_t number, const struct block *block)
 {
     uint8_t nonce[SEAL_NONCE];
 
-    make_nonce(nonce, threading, number);
+    make_nonce(nonce, identity, number);
     put_number(place, number, 4);
     place[4] = block->kind;
     place[5] = block->last;
     put_number(place + 6, block->used, 2);
-    seal(threading->key, threading->key_length, nonce, SEAL_NONCE,
+    seal(identity->key, identity->key_length, nonce, SEAL_NONCE,
          place, BLOCK_LEADER, block->payload, BLOCK_PAYLOAD,
          place + BLOCK_LEADER, BLOCK_PAYLOAD + SEAL_TAG);
 }
 
-bool block_opens(const uint8_t *place, const struct threading *threading,
+bool block_opens(const uint8_t *place, const struct identity *identity,
                  uint32_t number, struct block *block)
 {
     uint8_t nonce[SEAL_NONCE];
 
-    make_nonce(nonce, threading, number);
+    make_nonce(nonce, identity, number);
     block->kind = place[4];
     block->last = place[5];
     block->used = (uint16_t)take_number(place + 6, 2);
-    if (unseal(threading->key, threading->key_length, nonce, SEAL_NONCE,
+    if (unseal(identity->key, identity->key_length, nonce, SEAL_NONCE,
                place, BLOCK_LEADER, place + BLOCK_LEADER, BLOCK_PAYLOAD + SEAL_TAG,
                block->payload, BLOCK_PAYLOAD) != 0)
         return false;

@@ -16,8 +16,8 @@
 
 enum block_kind { KIND_START = 1, KIND_CONTINUED = 2, KIND_MARK = 3, KIND_END = 4 };
 
-/* The secret and the numbers that go into every nonce of a recording. */
-struct threading {
+/* What a block is sealed under: the key, and the numbers of every nonce. */
+struct identity {
     const uint8_t *key;
     size_t key_length;
     uint32_t cartridge;
@@ -38,12 +38,12 @@ uint64_t image_capacity(size_t image_length);
 bool block_lawful(const struct block *block);
 
 /* Writes the 512 bytes at `place` and none beyond. The key has its length. */
-void block_seal(uint8_t *place, const struct threading *threading,
+void block_seal(uint8_t *place, const struct identity *identity,
                 uint32_t number, const struct block *block);
 
 /* Whether the 512 bytes at `place` open at `number`. Where they don't, what
  * `block` then holds means nothing. */
-bool block_opens(const uint8_t *place, const struct threading *threading,
+bool block_opens(const uint8_t *place, const struct identity *identity,
                  uint32_t number, struct block *block);
 
 #endif

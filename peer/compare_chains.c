@@ -26,13 +26,13 @@ static struct strip image, key, bytes;
 static struct {
     size_t capacity;
     bool scribbled; /* foreign bytes come into the image between its calls */
-    nb_wrote state; /* the library's last; of an answer only these fields go on */
+    nb_state state; /* the library's last */
 } chain;
 
 /* One call. What is lent may be shorter or longer than the chain's own. */
 static struct {
     enum verb verb;
-    nb_wrote from;
+    nb_state from;
     bool strayed; /* from a state that is not the chain's */
     size_t image, key, bytes;
 } now;
@@ -71,7 +71,7 @@ static uint8_t draw_closed(void)
 
 /* One field or all of them. Some of these states are lawful, if not this
  * chain's, and a call from them is carried out. */
-static void stray(nb_wrote *state)
+static void stray(nb_state *state)
 {
     size_t way = below(9);
 
@@ -181,8 +181,8 @@ static void scribble(void)
 static nb_wrote as_wrote(struct reply reply)
 {
     nb_wrote wrote = {
-        reply.writer.cartridge, reply.writer.recording, (size_t)reply.writer.capacity,
-        (size_t)reply.writer.zone, (size_t)reply.writer.position, reply.writer.closed,
+        {reply.writer.cartridge, reply.writer.recording, (size_t)reply.writer.capacity,
+         (size_t)reply.writer.zone, (size_t)reply.writer.position, reply.writer.closed},
         (uint8_t)reply.result, reply.number,
     };
 
@@ -207,7 +207,7 @@ static struct reply call_peer(struct writer writer)
 }
 
 /* The peer's closed is a truth value. Any other flag makes a state unlawful, as
- * a capacity of 0 does; the given fields then come back. */
+ * a capacity of 0 does; the given state then comes back. */
 static nb_wrote run_peer(void)
 {
     bool odd = now.verb != START && now.from.closed > 1;
@@ -217,15 +217,10 @@ static nb_wrote run_peer(void)
     };
     nb_wrote wrote = as_wrote(call_peer(writer));
 
-    if (odd) {
-        wrote.capacity = now.from.capacity;
-        wrote.closed = now.from.closed;
-    }
+    if (odd)
+        wrote.state = now.from;
     return wrote;
 }
-
-#define FROM now.from.id, now.from.recording, now.from.capacity, now.from.zone, \
-             now.from.position, now.from.closed
 
 static nb_wrote run_kit(void)
 {
@@ -235,33 +230,32 @@ static nb_wrote run_kit(void)
     case START:
         return nb_start(now.from.id, now.from.recording, now.from.zone, lent, now.image);
     case RECORD:
-        return nb_record(FROM, key.kit + GUARD, now.key, bytes.kit + GUARD, now.bytes,
+        return nb_record(now.from, key.kit + GUARD, now.key, bytes.kit + GUARD, now.bytes,
                          lent, now.image);
     case MARK:
-        return nb_mark(FROM, key.kit + GUARD, now.key, lent, now.image);
+        return nb_mark(now.from, key.kit + GUARD, now.key, lent, now.image);
     default:
-        return nb_close(FROM, key.kit + GUARD, now.key, lent, now.image);
+        return nb_close(now.from, key.kit + GUARD, now.key, lent, now.image);
     }
 }
 
-static bool same_answer(const nb_wrote *a, const nb_wrote *b)
+static bool same_state(const nb_state *a, const nb_state *b)
 {
     return a->id == b->id && a->recording == b->recording && a->capacity == b->capacity
-           && a->zone == b->zone && a->position == b->position && a->closed == b->closed
-           && a->reply == b->reply && a->number == b->number;
+           && a->zone == b->zone && a->position == b->position && a->closed == b->closed;
 }
 
-static void print_wrote(const char *what, const nb_wrote *wrote)
+static void print_state(const char *what, const nb_state *state)
 {
     printf("compare-chains: %s id %" PRIu32 ", recording %" PRIu64 ", capacity %" PRIu64
            ", zone %" PRIu64 ", position %" PRIu64 ", closed %u",
-           what, wrote->id, wrote->recording, (uint64_t)wrote->capacity,
-           (uint64_t)wrote->zone, (uint64_t)wrote->position, wrote->closed);
+           what, state->id, state->recording, (uint64_t)state->capacity,
+           (uint64_t)state->zone, (uint64_t)state->position, state->closed);
 }
 
 static void print_answer(const char *whose, const nb_wrote *wrote)
 {
-    print_wrote(whose, wrote);
+    print_state(whose, &wrote->state);
     printf(", reply %u, number %u\n", wrote->reply, wrote->number);
 }
 
@@ -269,7 +263,8 @@ static bool agree(nb_wrote *answer)
 {
     nb_wrote peer = run_peer();
     nb_wrote kit = run_kit();
-    bool same = same_answer(&peer, &kit);
+    bool same = same_state(&peer.state, &kit.state) && peer.reply == kit.reply
+                && peer.number == kit.number;
 
     if (!same) {
         print_answer("peer:", &peer);
@@ -292,14 +287,14 @@ static void go_on(const nb_wrote *answer)
         return;
     if (now.verb == START && answer->reply == NB_REFUSED && once_in(2))
         return;
-    chain.state = *answer;
+    chain.state = answer->state;
 }
 
 /* A start comes first, and again until one is taken in most chains: what
  * follows a refused one is refused too. */
 static bool run_chain(uint64_t *calls)
 {
-    static const nb_wrote none;
+    static const nb_state none;
     size_t length = 1 + below(LONGEST_CHAIN);
     bool patient = !once_in(15);
     bool begun = false;
@@ -327,7 +322,7 @@ static bool run_chain(uint64_t *calls)
 
 static void print_call(uint64_t seed, uint64_t number, uint64_t call)
 {
-    print_wrote("given:", &now.from);
+    print_state("given:", &now.from);
     printf("; lengths: image %lu, key %lu, record %lu\n", (unsigned long)now.image,
            (unsigned long)now.key, (unsigned long)now.bytes);
     printf("compare-chains: DIFFERENT at call %" PRIu64 " of chain %" PRIu64 " of seed %" PRIu64

@@ -39,7 +39,7 @@ static struct strip image, key, out;
 /* What the image was written with, and how large it is. */
 static struct {
     size_t blocks;
-    struct threading threading;
+    struct identity identity;
     const char *sort;
 } made;
 
@@ -80,7 +80,7 @@ static void write_chain(void)
     uint8_t *front = place(0);
     size_t length = made.blocks * BLOCK_BYTES;
     size_t items = 1 + below(made.blocks);
-    const struct threading *with = &made.threading;
+    const struct identity *with = &made.identity;
     struct writer writer =
         writer_start(front, length, with->cartridge, with->recording, 1).writer;
 
@@ -145,7 +145,7 @@ static void spoil(struct block *block)
 static void misnumber(size_t p, const struct block *block)
 {
     uint8_t leader[BLOCK_LEADER], nonce[SEAL_NONCE];
-    const struct threading *with = &made.threading;
+    const struct identity *with = &made.identity;
 
     block_seal(place(p), with, (uint32_t)p, block);
     memcpy(leader, place(p), BLOCK_LEADER);
@@ -170,7 +170,7 @@ static void forge(size_t p)
     if (once_in(25))
         misnumber(p, &block);
     else
-        block_seal(place(p), &made.threading, (uint32_t)(once_in(25) ? p + 1 : p), &block);
+        block_seal(place(p), &made.identity, (uint32_t)(once_in(25) ? p + 1 : p), &block);
 }
 
 /* A long record of 63 to 66 blocks, so far as the image goes, with or without
@@ -186,7 +186,7 @@ static void forge_long(void)
     for (size_t i = 0; i < n && p + i < c; i++) {
         struct block block = lawful_block(i == 0 ? KIND_START : KIND_CONTINUED,
                                           ends && i == n - 1);
-        block_seal(place(p + i), &made.threading, (uint32_t)(p + i), &block);
+        block_seal(place(p + i), &made.identity, (uint32_t)(p + i), &block);
     }
     if (p + n < c && once_in(2))
         memset(place(p + n), 0, BLOCK_BYTES);
@@ -250,8 +250,8 @@ static void draw_asked(void)
 
     asked.image = whole;
     asked.key = SEAL_KEY;
-    asked.id = made.threading.cartridge;
-    asked.recording = made.threading.recording;
+    asked.id = made.identity.cartridge;
+    asked.recording = made.identity.recording;
     switch (below(80)) {
     case 0: asked.image = whole - 1 - below(BLOCK_BYTES - 1); break;
     case 1: asked.image = (IMAGE_FEWEST - 1) * BLOCK_BYTES; break;
@@ -278,10 +278,10 @@ static void draw_image(uint64_t number)
     made.blocks = IMAGE_FEWEST + below(9);
     if (large)
         made.blocks = LARGE + below(once_in(4) ? IMAGE_MOST - LARGE + 1 : 9);
-    made.threading.key = key.peer + GUARD;
-    made.threading.key_length = SEAL_KEY;
-    made.threading.cartridge = (uint32_t)draw();
-    made.threading.recording = draw();
+    made.identity.key = key.peer + GUARD;
+    made.identity.key_length = SEAL_KEY;
+    made.identity.cartridge = (uint32_t)draw();
+    made.identity.recording = draw();
     lay_image();
     draw_asked();
     strip_copy(&image);
@@ -294,11 +294,11 @@ static void draw_image(uint64_t number)
 #define KIT_KEY key.kit + GUARD, asked.key, asked.id, asked.recording
 #define KIT_IMAGE image.kit + GUARD, asked.image
 
-static struct threading peer_key(void)
+static struct identity peer_key(void)
 {
-    struct threading threading = {key.peer + GUARD, asked.key, asked.id, asked.recording};
+    struct identity identity = {key.peer + GUARD, asked.key, asked.id, asked.recording};
 
-    return threading;
+    return identity;
 }
 
 static bool same(const char *what, uint64_t peer, uint64_t kit)
@@ -349,11 +349,11 @@ static bool agree_parts(size_t length)
 
 static bool agree_read(size_t p, size_t out_length)
 {
-    struct threading threading = peer_key();
+    struct identity identity = peer_key();
 
     strip_noise(&out, out_length);
     strip_copy(&out);
-    struct answer peer = reader_read(&threading, PEER_IMAGE, p, out.peer + GUARD, out_length);
+    struct answer peer = reader_read(&identity, PEER_IMAGE, p, out.peer + GUARD, out_length);
     nb_got kit = nb_read(KIT_KEY, KIT_IMAGE, p, out.kit + GUARD, out_length);
     bool refused = peer.outcome == OUTCOME_REFUSED;
     bool agreed = same("read's outcome", peer.outcome, kit.outcome);
@@ -388,8 +388,8 @@ static bool agree_look(size_t p)
 
 static bool agree_space(size_t p, size_t n)
 {
-    struct threading threading = peer_key();
-    struct spacing peer = reader_space(&threading, PEER_IMAGE, p, n);
+    struct identity identity = peer_key();
+    struct spacing peer = reader_space(&identity, PEER_IMAGE, p, n);
     nb_spaced kit = nb_space(KIT_KEY, KIT_IMAGE, p, n);
     bool agreed = same("spacing's kind", peer.spaced, kit.kind);
 
@@ -422,8 +422,8 @@ static bool agree_spaces(size_t p)
 
 static bool agree_report(void)
 {
-    struct threading threading = peer_key();
-    struct report peer = reader_report(&threading, PEER_IMAGE);
+    struct identity identity = peer_key();
+    struct report peer = reader_report(&identity, PEER_IMAGE);
     nb_tally kit = nb_report(KIT_KEY, KIT_IMAGE);
     bool agreed = same("report's number", peer.number, kit.number);
 

@@ -6,7 +6,7 @@
 
 /* A loaded cartridge whose image and key are known to be of lawful length. */
 struct loaded {
-    const struct threading *threading;
+    const struct identity *identity;
     const uint8_t *image;
     uint64_t capacity;
 };
@@ -20,7 +20,7 @@ static struct answer answer(enum outcome outcome, uint64_t data, uint64_t next)
 
 static bool opens(const struct loaded *loaded, uint64_t place, struct block *block)
 {
-    return block_opens(loaded->image + BLOCK_BYTES * place, loaded->threading,
+    return block_opens(loaded->image + BLOCK_BYTES * place, loaded->identity,
                        (uint32_t)place, block);
 }
 
@@ -72,24 +72,24 @@ static struct answer read_at(const struct loaded *loaded, uint64_t p,
 }
 
 /* Causes 1 and 2, and the cartridge loaded where there is none. */
-static uint8_t load(struct loaded *loaded, const struct threading *threading,
+static uint8_t load(struct loaded *loaded, const struct identity *identity,
                     const uint8_t *image, size_t image_length)
 {
-    loaded->threading = threading;
+    loaded->identity = identity;
     loaded->image = image;
     loaded->capacity = image_capacity(image_length);
     if (loaded->capacity == 0)
         return 1;
-    return threading->key_length == SEAL_KEY ? 0 : 2;
+    return identity->key_length == SEAL_KEY ? 0 : 2;
 }
 
-struct answer reader_read(const struct threading *threading,
+struct answer reader_read(const struct identity *identity,
                           const uint8_t *image, size_t image_length,
                           uint64_t position, uint8_t *out, size_t out_length)
 {
     uint8_t gathered[RECORD_BYTES];
     struct loaded loaded;
-    uint8_t number = load(&loaded, threading, image, image_length);
+    uint8_t number = load(&loaded, identity, image, image_length);
 
     if (number == 0 && out_length < RECORD_BYTES)
         number = 2;
@@ -138,14 +138,14 @@ static struct spacing spaced(enum spaced how, uint64_t marks, uint64_t place, ui
     return made;
 }
 
-struct spacing reader_space(const struct threading *threading,
+struct spacing reader_space(const struct identity *identity,
                             const uint8_t *image, size_t image_length,
                             uint64_t position, uint64_t marks)
 {
     uint8_t gathered[RECORD_BYTES];
     struct loaded loaded;
     uint64_t p = position, passed = 0;
-    uint8_t number = load(&loaded, threading, image, image_length);
+    uint8_t number = load(&loaded, identity, image, image_length);
 
     if (number == 0 && position >= loaded.capacity)
         number = 8;
@@ -164,13 +164,13 @@ struct spacing reader_space(const struct threading *threading,
     return spaced(SPACED_AT, 0, p, 0);
 }
 
-uint8_t reader_walk(const struct threading *threading,
+uint8_t reader_walk(const struct identity *identity,
                     const uint8_t *image, size_t image_length,
                     struct answer answers[IMAGE_MOST], size_t *count)
 {
     uint8_t gathered[RECORD_BYTES];
     struct loaded loaded;
-    uint8_t number = load(&loaded, threading, image, image_length);
+    uint8_t number = load(&loaded, identity, image, image_length);
 
     *count = 0;
     if (number != 0)
@@ -184,14 +184,14 @@ uint8_t reader_walk(const struct threading *threading,
     return 0;
 }
 
-struct report reader_report(const struct threading *threading,
+struct report reader_report(const struct identity *identity,
                             const uint8_t *image, size_t image_length)
 {
     struct answer answers[IMAGE_MOST];
     struct report report = {0, {0}};
     size_t count;
 
-    report.number = reader_walk(threading, image, image_length, answers, &count);
+    report.number = reader_walk(identity, image, image_length, answers, &count);
     for (size_t i = 0; i < count; i++)
         report.counts[answers[i].outcome]++;
     return report;

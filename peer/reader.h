@@ -25,7 +25,7 @@ struct answer {
 
 /* 1, 2, 8. The first 31,232 bytes of `out` become the record and zeros, or
  * zeros alone; a refusal leaves them, and bytes past them always stay. */
-struct answer reader_read(const struct threading *threading,
+struct answer reader_read(const struct identity *identity,
                           const uint8_t *image, size_t image_length,
                           uint64_t position, uint8_t *out, size_t out_length);
 
@@ -54,12 +54,12 @@ struct spacing {
 };
 
 /* 1, 2, 8 */
-struct spacing reader_space(const struct threading *threading,
+struct spacing reader_space(const struct identity *identity,
                             const uint8_t *image, size_t image_length,
                             uint64_t position, uint64_t marks);
 
 /* The answers of the walk from 0; 1, 2. A walk has at most a read a block. */
-uint8_t reader_walk(const struct threading *threading,
+uint8_t reader_walk(const struct identity *identity,
                     const uint8_t *image, size_t image_length,
                     struct answer answers[IMAGE_MOST], size_t *count);
 
@@ -69,7 +69,7 @@ struct report {
 };
 
 /* 1, 2 */
-struct report reader_report(const struct threading *threading,
+struct report reader_report(const struct identity *identity,
                             const uint8_t *image, size_t image_length);
 
 #endif

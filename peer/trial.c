@@ -10,7 +10,7 @@
 #define MOST_BYTES (IMAGE_MOST * BLOCK_BYTES)
 
 static const uint8_t key[SEAL_KEY] = "the key of the trial...";
-static const struct threading threading = {key, SEAL_KEY, 7, 9};
+static const struct identity identity = {key, SEAL_KEY, 7, 9};
 static uint8_t image[MOST_BYTES], before[MOST_BYTES];
 static uint8_t programme[RECORD_BYTES + 1], heard[RECORD_BYTES + 8];
 static int checks, faults;
@@ -48,7 +48,7 @@ static struct reply finish(struct writer writer)
 static bool answers(uint64_t blocks, uint64_t p, enum outcome outcome,
                     uint64_t data, uint64_t next)
 {
-    struct answer a = reader_read(&threading, image, blocks * BLOCK_BYTES, p,
+    struct answer a = reader_read(&identity, image, blocks * BLOCK_BYTES, p,
                                   heard, sizeof heard);
 
     return a.outcome == outcome && a.data == data && a.next == next;
@@ -135,7 +135,7 @@ static void try_sound(void)
     check("record of three", answers(8, 4, OUTCOME_RECORD, 1464, 7));
     check("end", answers(8, 7, OUTCOME_END, 0, 7));
     check("read at c", answers(8, 8, OUTCOME_REFUSED, 8, 8));
-    report = reader_report(&threading, image, 8 * BLOCK_BYTES);
+    report = reader_report(&identity, image, 8 * BLOCK_BYTES);
     check("report", report.number == 0 && report.counts[OUTCOME_RECORD] == 3
           && report.counts[OUTCOME_MARK] == 1 && report.counts[OUTCOME_END] == 1
           && report.counts[OUTCOME_BAD] + report.counts[OUTCOME_STRAY]
@@ -157,7 +157,7 @@ static void try_damaged(void)
 
 static bool spaces(uint64_t p, uint64_t n, enum spaced how, uint64_t marks, uint64_t place)
 {
-    struct spacing s = reader_space(&threading, image, 8 * BLOCK_BYTES, p, n);
+    struct spacing s = reader_space(&identity, image, 8 * BLOCK_BYTES, p, n);
 
     return s.spaced == how && s.marks == marks && s.place == place;
 }
@@ -170,7 +170,7 @@ static void forge(uint64_t number, uint8_t kind, uint8_t last, uint16_t used)
     block.kind = kind;
     block.last = last;
     block.used = used;
-    block_seal(image + BLOCK_BYTES * number, &threading, (uint32_t)number, &block);
+    block_seal(image + BLOCK_BYTES * number, &identity, (uint32_t)number, &block);
 }
 
 static void try_spacing(void)
@@ -266,7 +266,7 @@ static void try_random(void)
     for (int recording = 0; recording < 200; recording++) {
         uint64_t blocks = IMAGE_FEWEST + draw(IMAGE_MOST - IMAGE_FEWEST + 1);
         size_t count = lay_random(blocks, kept), found = 0;
-        check("walked", reader_walk(&threading, image, blocks * BLOCK_BYTES,
+        check("walked", reader_walk(&identity, image, blocks * BLOCK_BYTES,
                                     walked, &found) == 0 && found == count);
         for (size_t i = 0; i < count && i < found; i++)
             check("the accepted items come back",

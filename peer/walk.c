@@ -12,14 +12,14 @@
 
 static uint8_t image[BLOCKS * BLOCK_BYTES], key[24], reel[2000];
 
-static const struct threading threading = {key, sizeof key, CARTRIDGE, RECORDING};
+static const struct identity identity = {key, sizeof key, CARTRIDGE, RECORDING};
 
 static void forge(uint32_t place, uint8_t kind, uint8_t last, uint16_t used)
 {
     struct block block = {kind, last, used, {0}};
 
     memset(block.payload, 0x5A, used);
-    block_seal(image + place * BLOCK_BYTES, &threading, place, &block);
+    block_seal(image + place * BLOCK_BYTES, &identity, place, &block);
 }
 
 /* Records of 1, 2 and 4 blocks, marks and a closing; then blocks 2 and 6 are damaged, block 5 zeroed, and with the key in hand a stray is forged at 9 and a
@@ -80,13 +80,13 @@ int walk_stdout(FILE *to)
     struct report report;
 
     make_image();
-    if (reader_walk(&threading, image, sizeof image, answers, &count) != 0)
+    if (reader_walk(&identity, image, sizeof image, answers, &count) != 0)
         return 1;
     for (size_t i = 0; i < count; i++) {
         print_answer(to, position, answers[i]);
         position = answers[i].next;
     }
-    report = reader_report(&threading, image, sizeof image);
+    report = reader_report(&identity, image, sizeof image);
     fprintf(to, "records %llu marks %llu ends %llu bads %llu strays %llu cuts %llu\n",
             (unsigned long long)report.counts[OUTCOME_RECORD], (unsigned long long)report.counts[OUTCOME_MARK],
             (unsigned long long)report.counts[OUTCOME_END], (unsigned long long)report.counts[OUTCOME_BAD],

@@ -51,9 +51,9 @@ static bool fits(struct writer writer, uint64_t blocks)
 static void lay_block(struct writer *writer, uint8_t *image, const uint8_t *key,
                       const struct block *block)
 {
-    struct threading threading = {key, SEAL_KEY, writer->cartridge, writer->recording};
+    struct identity identity = {key, SEAL_KEY, writer->cartridge, writer->recording};
 
-    block_seal(image + BLOCK_BYTES * writer->position, &threading,
+    block_seal(image + BLOCK_BYTES * writer->position, &identity,
                (uint32_t)writer->position, block);
     writer->position++;
 }

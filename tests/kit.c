@@ -110,40 +110,86 @@ static void sealing(void)
     free(room);
 }
 
-static nb_wrote record(nb_wrote s, size_t n)
+static nb_wrote record(nb_state s, size_t n)
 {
-    return nb_record(s.id, s.recording, s.capacity, s.zone, s.position, s.closed, key, sizeof key, buffer, n, image, sizeof image);
+    return nb_record(s, key, sizeof key, buffer, n, image, sizeof image);
+}
+
+static nb_wrote mark(nb_state s)
+{
+    return nb_mark(s, key, sizeof key, image, sizeof image);
+}
+
+static nb_wrote finish(nb_state s)
+{
+    return nb_close(s, key, sizeof key, image, sizeof image);
+}
+
+/* By the number, with the state as it was given. */
+static int refused(nb_wrote w, uint8_t number, nb_state given)
+{
+    nb_state s = w.state;
+
+    return w.reply == NB_REFUSED && w.number == number && s.id == given.id && s.recording == given.recording && s.capacity == given.capacity
+           && s.zone == given.zone && s.position == given.position && s.closed == given.closed;
+}
+
+static void starting(void)
+{
+    static const nb_state none = {0, 0, 0, 0, 0, 1};
+    nb_wrote w = nb_start(1, 1, BLOCKS, image, sizeof image);
+
+    IS(refused(w, NB_WRONG_ZONE, none) && refused(record(w.state, 1), NB_UNLAWFUL, none));
+    IS(refused(nb_start(1, 1, 1, image, 3 * NB_BLOCK_BYTES), NB_WRONG_IMAGE, none));
+    w = nb_start(1, 1, 3, image, sizeof image);
+    IS(w.reply == NB_PLAIN && w.number == 0 && w.state.id == 1 && w.state.recording == 1 && w.state.capacity == BLOCKS);
+    IS(w.state.zone == 3 && w.state.position == 0 && w.state.closed == 0);
 }
 
 /* The rehearsal of 01. */
-static nb_wrote writing(void)
+static nb_state writing(void)
 {
-    nb_wrote s = nb_start(1, 1, BLOCKS, image, sizeof image);
+    nb_state s = nb_start(1, 1, 3, image, sizeof image).state;
+    nb_wrote w;
 
-    IS(s.reply == NB_REFUSED && s.number == NB_WRONG_ZONE && s.closed == 1);
-    IS(nb_start(1, 1, 1, image, 3 * NB_BLOCK_BYTES).number == NB_WRONG_IMAGE);
-    s = nb_start(1, 1, 3, image, sizeof image);
-    IS(s.reply == NB_PLAIN && s.capacity == BLOCKS && s.position == 0);
     memset(buffer, 0x5A, sizeof buffer);
-    s = record(s, 5);
-    s = record(s, NB_BLOCK_PAYLOAD + 1);
-    IS(s.position == 3 && s.reply == NB_PLAIN);
-    s = nb_mark(s.id, s.recording, s.capacity, s.zone, s.position, s.closed, key, sizeof key, image, sizeof image);
-    IS(s.position == 4 && s.reply == NB_PLAIN);
-    s = record(s, 3 * NB_BLOCK_PAYLOAD);
-    IS(s.position == 7 && s.reply == NB_WARNED);
-    IS(record(s, 1).number == NB_NO_ROOM && record(s, 0).number == NB_WRONG_RECORD && record(s, NB_RECORD_MAX + 1).number == NB_WRONG_RECORD);
-    s = nb_close(s.id, s.recording, s.capacity, s.zone, s.position, s.closed, key, sizeof key, image, sizeof image);
-    IS(s.position == 8 && s.closed == 1 && s.reply == NB_PLAIN);
-    IS(record(s, 1).number == NB_CLOSED);
-    IS(nb_mark(s.id, s.recording, s.capacity, s.zone, s.position, s.closed, key, sizeof key, image, sizeof image).number == NB_CLOSED);
-    IS(nb_close(s.id, s.recording, s.capacity, s.zone, s.position, s.closed, key, sizeof key, image, sizeof image).number == NB_CLOSED);
-    IS(nb_mark(s.id, s.recording, s.capacity, s.zone, 7, 0, key, sizeof key, image, sizeof image).number == NB_NO_ROOM);
-    IS(nb_close(s.id, s.recording, s.capacity, s.zone, 8, 0, key, sizeof key, image, sizeof image).number == NB_WRONG_STATE);
-    IS(nb_close(s.id, s.recording, s.capacity, s.zone, 8, 1, key, 23, image, sizeof image).number == NB_WRONG_LENGTH);
-    s.closed = 2;
-    IS(record(s, 1).number == NB_WRONG_STATE && record(s, 1).closed == 2);
+    s = record(s, 5).state;
+    w = record(s, NB_BLOCK_PAYLOAD + 1);
+    IS(w.state.position == 3 && w.reply == NB_PLAIN);
+    w = mark(w.state);
+    IS(w.state.position == 4 && w.reply == NB_PLAIN);
+    w = record(w.state, 3 * NB_BLOCK_PAYLOAD);
+    IS(w.state.position == 7 && w.reply == NB_WARNED && w.number == 0);
+    s = w.state;
+    IS(refused(record(s, 1), NB_NO_ROOM, s) && refused(mark(s), NB_NO_ROOM, s));
+    IS(refused(record(s, 0), NB_WRONG_RECORD, s) && refused(record(s, NB_RECORD_MAX + 1), NB_WRONG_RECORD, s));
+    w = finish(s);
+    IS(w.state.position == 8 && w.state.closed == 1 && w.reply == NB_PLAIN);
+    s = w.state;
+    IS(refused(record(s, 1), NB_CLOSED, s) && refused(mark(s), NB_CLOSED, s) && refused(finish(s), NB_CLOSED, s));
     return s;
+}
+
+/* States that are not lawful for the image, a closed flag that is neither 0 nor 1 among them: 8, behind 1 and 2. */
+static void unlawful(nb_state s)
+{
+    static const uint8_t odd[] = {2, 255};
+    static uint8_t before[sizeof image];
+    size_t i;
+
+    memcpy(before, image, sizeof before);
+    for (i = 0; i < sizeof odd; i++) {
+        s.closed = odd[i];
+        IS(refused(record(s, 1), NB_UNLAWFUL, s) && refused(mark(s), NB_UNLAWFUL, s) && refused(finish(s), NB_UNLAWFUL, s));
+        IS(refused(nb_mark(s, key, 23, image, sizeof image), NB_WRONG_LENGTH, s));
+        IS(refused(nb_close(s, key, 23, image, 100), NB_WRONG_IMAGE, s));
+    }
+    s.closed = 0;
+    IS(refused(finish(s), NB_UNLAWFUL, s) && refused(nb_record(s, key, 25, buffer, 1, image, sizeof image), NB_WRONG_LENGTH, s));
+    s.position = 0;
+    s.closed = 1;
+    IS(refused(mark(s), NB_UNLAWFUL, s));
+    IS(memcmp(before, image, sizeof before) == 0);
 }
 
 /* A single block by hand: the mark that the rehearsal wrote at 3 is 01's eight bytes and what nb_seal gives under 01's nonce. */
@@ -175,9 +221,10 @@ static void reading(void)
     IS(nb_record_part(buffer, 4, 5).length == 0);
     IS(read_at(3, NB_RECORD_MAX).outcome == NB_GOT_MARK && read_at(2, NB_RECORD_MAX).outcome == NB_GOT_STRAY);
     IS(read_at(7, NB_RECORD_MAX).outcome == NB_GOT_END && read_at(7, NB_RECORD_MAX).next == 7);
-    IS(read_at(8, NB_RECORD_MAX).number == NB_WRONG_POSITION && read_at(0, NB_RECORD_MAX - 1).number == NB_WRONG_LENGTH);
+    IS(read_at(8, NB_RECORD_MAX).number == NB_UNLAWFUL && read_at(0, NB_RECORD_MAX - 1).number == NB_WRONG_LENGTH);
     IS(nb_look(image, sizeof image, 2).offset == 2 * NB_BLOCK_BYTES && nb_look(image, sizeof image, 2).length == NB_BLOCK_BYTES);
-    IS(nb_look_number(image, sizeof image, BLOCKS) == NB_WRONG_POSITION && nb_look(image, sizeof image, BLOCKS).length == 0);
+    IS(nb_look_number(image, sizeof image, BLOCKS) == NB_UNLAWFUL && nb_look(image, sizeof image, BLOCKS).length == 0);
+    IS(nb_look_number(image, sizeof image, BLOCKS - 1) == NB_DONE && nb_look_number(image, 100, 0) == NB_WRONG_IMAGE);
     IS(spaced.kind == NB_SPACED_AT && spaced.position == 4);
     spaced = nb_space(key, sizeof key, 1, 1, image, sizeof image, 0, 2);
     IS(spaced.kind == NB_SPACED_SHORT && spaced.marks == 1 && spaced.position == 7);
@@ -195,12 +242,14 @@ static void reading(void)
 int main(void)
 {
     IS(NB_IMAGE_FEWEST == 4 && NB_IMAGE_MOST == 128 && NB_RATE_BYTES == 32 && NB_DOMAIN_NONCE == 0x20 && NB_DOMAIN_DATA == 0x40);
+    IS(NB_RECORD_BLOCKS * NB_BLOCK_PAYLOAD == NB_RECORD_MAX);
     permutation();
     miniboxes();
     rounds();
     operations();
     sealing();
-    writing();
+    starting();
+    unlawful(writing());
     one_block();
     reading();
     if (faults == 0)

@@ -1,3 +1,0 @@
--- What crosses to C.
-pub mod Crossing
-pub mod Unique

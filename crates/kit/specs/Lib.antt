@@ -1,3 +1,0 @@
--- How structs and enums cross to C: as numbers.
-pub mod FlatWriter
-pub mod FlatReader

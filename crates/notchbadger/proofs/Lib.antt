@@ -1,0 +1,1 @@
+-- What crosses to C: a folder for each room.

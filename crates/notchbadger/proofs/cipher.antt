@@ -1,0 +1,2 @@
+-- The forwarders.
+pub mod Unique

@@ -1,0 +1,3 @@
+-- How the reader's calls cross.
+pub mod Crossing
+pub mod Unique

@@ -1,0 +1,2 @@
+-- Spacing and the report cross as one answer.
+pub mod Unique

@@ -1,0 +1,3 @@
+-- How the writer's calls cross.
+pub mod Crossing
+pub mod Unique

@@ -1,0 +1,4 @@
+-- How structs and enums cross to C: as numbers, a file for each room.
+pub mod FlatWriter
+pub mod FlatReader
+pub mod FlatSurvey
