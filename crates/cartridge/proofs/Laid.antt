@@ -15,7 +15,7 @@ use Rattle.block.proofs.ImageLaws.{Now, ShowsBut, Stands}
 use Rattle.writer.specs.Items.{Item, rec, fmark, size, pieces, isNil, following, recorded, blocks, layout, sizes}
 use Rattle.writer.proofs.Pieces.{length-blocks}
 use Rattle.writer.proofs.Ready.{Sound, AllSound}
-use Rattle.writer.proofs.InOrder.{length-layout, size-pos, flat, Cutting, cutting}
+use Rattle.writer.proofs.InOrder.{length-layout, size-pos, joined-up, Cutting, cutting}
 use Rattle.reader.specs.Walk.{Told, Record, Mark, isEnd, Answer, answer, inside, gather, between, readAt}
 use Rattle.cartridge.specs.Handed.{Handed, hand, given}
 use Rattle.cartridge.specs.Recovered.{whole, intact}
@@ -32,7 +32,7 @@ shows-whole P sp v s (b ∷ bs) h w = go (sp s) (h .0) w (λ k. shows-whole P sp
     go false h w k = (h, k w)
 
 pub gather-whole : (xs : List (List ℕ)) (x : List ℕ) (room : ℕ) (v : View) (q : ℕ) (acc : List ℕ) → Stands v q (following (x ∷ xs)) → length (x ∷ xs) ≤ room
-    → gather room v q acc ≡ answer (Record (acc ++ flat (x ∷ xs))) (q + length (x ∷ xs))
+    → gather room v q acc ≡ answer (Record (acc ++ joined-up (x ∷ xs))) (q + length (x ∷ xs))
 unfolding following gather
 gather-whole xs x zero v q acc s h = absurd (omega arith)
 gather-whole [] x (suc room) v q acc s h = rw (s .0, append-nil, add-one)
@@ -44,7 +44,7 @@ outcome (rec b) = Record b
 outcome fmark = Mark
 
 pub read-pieces : (x : List ℕ) (xs : List (List ℕ)) (v : View) (c s : ℕ) → Stands v s (recorded (x ∷ xs)) → s + length (x ∷ xs) ≤ c → length (x ∷ xs) ≤ 64
-    → readAt v c s ≡ answer (Record (flat (x ∷ xs))) (s + length (x ∷ xs))
+    → readAt v c s ≡ answer (Record (joined-up (x ∷ xs))) (s + length (x ∷ xs))
 unfolding recorded readAt
 read-pieces x [] v c s k h l = rw (k .0, append-nil, add-one)
 read-pieces x (y ∷ ys) v c s k h l = rw (k .0, gather-whole ys y (min (c - suc s) 63) v (suc s) x (k .1) (omega arith)) (simp (suc-add, add-suc))

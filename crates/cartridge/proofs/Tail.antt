@@ -13,7 +13,7 @@ use Rattle.block.proofs.ImageLaws.{Stands}
 use Rattle.writer.specs.declared.WriterState.{WriterState}
 use Rattle.writer.specs.declared.Reply.the-variants.{Plain}
 use Rattle.writer.specs.Items.{Item, rec, fmark, size, blocks, sizes}
-use Rattle.writer.specs.Writing.{numberOf, write, close}
+use Rattle.writer.specs.Writing.{replyNumber, write, close}
 use Rattle.writer.proofs.Pieces.{length-blocks}
 use Rattle.writer.proofs.Ready.{Ready, AllSound}
 use Rattle.writer.proofs.InOrder.{size-pos}
@@ -55,6 +55,6 @@ whole-walk r p k =
     walk-closed (items r) (shown (r .setup) was) c 0 c (m .all-sound) (rw k at (m .stands)) (omega arith) (omega arith)
 
 -- a refused record leaves state and image, and where the state is lawful and open the closing is still taken
-pub refused-closable : (s : WriterState) (key image : List ℕ) (i : Item) (n : ℕ) → Ready s key image → numberOf (write s key image i .reply) ≡ suc n
+pub refused-closable : (s : WriterState) (key image : List ℕ) (i : Item) (n : ℕ) → Ready s key image → replyNumber (write s key image i .reply) ≡ suc n
     → close (write s key image i .state) key (write s key image i .image) .reply ≡ Plain
 refused-closable s key image i n r e = rw (refused-leaves s key image i n e) (room-for-closing s key image r .0)

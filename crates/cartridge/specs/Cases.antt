@@ -10,7 +10,7 @@ use Rattle.sponge.specs.Blink.{padClose}
 use Rattle.writer.specs.declared.Reply.{Reply}
 use Rattle.writer.specs.declared.Reply.the-variants.{Plain, Warned, Refused}
 use Rattle.writer.specs.Items.{rec, blocksFor}
-use Rattle.writer.specs.Writing.{numberOf, Done, write}
+use Rattle.writer.specs.Writing.{replyNumber, Done, write}
 
 pub record Case : Type 0 where
   pub found : List ℕ
@@ -66,5 +66,5 @@ cases =
     -- 13 is
     record { found = endsAt 12; said = 13 ∷ 1 ∷ [] } ∷
     -- P12 two blocks at 13 are taken, at 14 refused 5
-    record { found = numberOf (recordAt 13 489 .reply) ∷ numberOf (recordAt 14 489 .reply) ∷ []; said = 0 ∷ 5 ∷ [] } ∷
+    record { found = replyNumber (recordAt 13 489 .reply) ∷ replyNumber (recordAt 14 489 .reply) ∷ []; said = 0 ∷ 5 ∷ [] } ∷
     []

@@ -6,7 +6,7 @@ use lib.ListN.{length}
 use Rattle.reader.specs.declared.Outcome.{Outcome}
 use Rattle.reader.specs.declared.Outcome.the-variants as o
 use Rattle.reader.specs.declared.Got.{Got}
-use Rattle.reader.specs.Reading.{numberOf, readGives, readLeaves, partOf, lookPart, lookPlace}
+use Rattle.reader.specs.Reading.{outcomeNumber, readGives, readLeaves, partOf, lookPart, lookPlace}
 use Rattle.notchbadger.specs.declared.reading.NbGot.{NbGot}
 use Rattle.notchbadger.specs.declared.reading.NbPart.{NbPart}
 
@@ -34,7 +34,7 @@ abbrev pub flatGot : Got → NbGot
 flatGot g =
     record {
       outcome = outcomeCode (g .outcome);
-      number = numberOf (g .outcome);
+      number = outcomeNumber (g .outcome);
       «data» = dataOf (g .outcome);
       next = g .next;
     }

@@ -3,15 +3,14 @@ use mathlib.Core.Path.{_≡_}
 use mathlib.Core.List.{List}
 use Prim.Native.Nat.{ℕ}
 use lib.Dec.{eqb, leb}
-use lib.ListN.{length}
-use Rattle.laws.specs.Choose.{pick, firstOf}
+use Rattle.laws.specs.Choose.{pick}
 use Rattle.block.specs.Content.{flag}
-use Rattle.block.specs.Image.{imageOk}
+use Rattle.block.specs.Image.{imageThenKey}
 use Rattle.writer.specs.declared.WriterState.{WriterState}
 use Rattle.writer.specs.declared.Reply.{Reply}
 use Rattle.writer.specs.declared.Reply.the-variants.{Plain, Warned, Refused}
 use Rattle.writer.specs.declared.Wrote.{Wrote}
-use Rattle.writer.specs.Writing.{numberOf, Done, answer}
+use Rattle.writer.specs.Writing.{replyNumber, Done, wroteOf}
 use Rattle.notchbadger.specs.declared.writing.NbState.{NbState}
 use Rattle.notchbadger.specs.declared.writing.NbWrote.{NbWrote}
 
@@ -45,20 +44,20 @@ stateOf s =
     }
 
 abbrev pub flatWrote : Wrote → NbWrote
-flatWrote w = record { state = flatState (w .state); reply = replyCode (w .reply); number = numberOf (w .reply) }
+flatWrote w = record { state = flatState (w .state); reply = replyCode (w .reply); number = replyNumber (w .reply) }
 
 -- any other flag is an unlawful state: 8, behind 1 and 2, and the state comes back as it was given
 unfoldable pub flagNumber : List ℕ → List ℕ → ℕ
-flagNumber key image = firstOf (imageOk image) 1 (firstOf (eqb (length key) 24) 2 8)
+flagNumber key image = imageThenKey key image 8
 
 abbrev pub sentBack : NbState → ℕ → NbWrote
 sentBack s n = record { state = s; reply = 2; number = n }
 
 -- what a call on a state promises, where d is what the writer does
 pub record FlatDid (s : NbState) (key image : List ℕ) (d : Done) (r : NbWrote) (image′ : List ℕ) : Type 0 where
-  pub says : r ≡ pick (leb (s .closed) 1) (flatWrote (answer d)) (sentBack s (flagNumber key image))
+  pub says : r ≡ pick (leb (s .closed) 1) (flatWrote (wroteOf d)) (sentBack s (flagNumber key image))
   pub leaves : image′ ≡ pick (leb (s .closed) 1) (d .image) image
 
 pub record FlatStarted (d : Done) (r : NbWrote) (image′ : List ℕ) : Type 0 where
-  pub says : r ≡ flatWrote (answer d)
+  pub says : r ≡ flatWrote (wroteOf d)
   pub leaves : image′ ≡ d .image

@@ -1,6 +1,6 @@
 // The reader. A returned part can't cross: its place and length do.
 ghost use mathlib.Core.Path.{_≡_};
-ghost use Rattle.reader.specs.Reading.{numberOf, lookNumber};
+ghost use Rattle.reader.specs.Reading.{outcomeNumber, lookNumber};
 ghost use Rattle.notchbadger.specs.FlatReader.{outcomeCode, dataOf, flatGot, FlatRead, recordPlace, lookedAt};
 use numbers::BLOCK_BYTES;
 use numbers::DONE;
@@ -52,7 +52,7 @@ fn outcome_code(outcome: Outcome) -> u8
 }
 
 fn outcome_number(outcome: Outcome) -> u8
-    ensures { λ r. ⌜ r ≡ numberOf outcome ⌝ }
+    ensures { λ r. ⌜ r ≡ outcomeNumber outcome ⌝ }
 {
     match outcome {
         Outcome::Record(_) => DONE,

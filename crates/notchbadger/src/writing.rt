@@ -2,14 +2,11 @@
 ghost use mathlib.Core.Path.{_≡_};
 ghost use Rattle.block.specs.Content.{flag};
 ghost use Rattle.writer.specs.Items.{rec, fmark};
-ghost use Rattle.writer.specs.Writing.{numberOf, start, write, close};
+ghost use Rattle.writer.specs.Writing.{replyNumber, start, write, close};
 ghost use Rattle.notchbadger.specs.FlatWriter.{replyCode, flatState, stateOf, flatWrote};
 ghost use Rattle.notchbadger.specs.FlatWriter.{flagNumber, sentBack, FlatDid, FlatStarted};
 use numbers::DONE;
-use numbers::KEY_BYTES;
 use numbers::UNLAWFUL;
-use numbers::WRONG_IMAGE;
-use numbers::WRONG_LENGTH;
 use writer::Reply;
 use writer::WriterState;
 use writer::Wrote;
@@ -50,7 +47,7 @@ fn reply_code(reply: Reply) -> u8
 }
 
 fn reply_number(reply: Reply) -> u8
-    ensures { λ r. ⌜ r ≡ numberOf reply ⌝ }
+    ensures { λ r. ⌜ r ≡ replyNumber reply ⌝ }
 {
     match reply {
         Reply::Plain => DONE,
@@ -109,11 +106,9 @@ fn state_of(state: NbState) -> WriterState
 fn flag_number(key: &[u8], image: &[u8]) -> u8
     ensures { λ r. ⌜ r ≡ flagNumber (now (key .entry)) (now (image .entry)) ⌝ }
 {
-    if !block::is_image(image.len()) {
-        return WRONG_IMAGE;
-    }
-    if key.len() != KEY_BYTES {
-        return WRONG_LENGTH;
+    let number = block::image_then_key(key, image);
+    if number != DONE {
+        return number;
     }
     UNLAWFUL
 }

@@ -22,14 +22,14 @@ outcomeOf Bad = o.Bad
 outcomeOf Stray = o.Stray
 outcomeOf (Cut q) = o.Cut q
 
-abbrev pub numberOf : Outcome → ℕ
-numberOf (o.Record n) = 0
-numberOf o.Mark = 0
-numberOf o.End = 0
-numberOf o.Bad = 0
-numberOf o.Stray = 0
-numberOf (o.Cut q) = 0
-numberOf (o.Refused n) = n
+abbrev pub outcomeNumber : Outcome → ℕ
+outcomeNumber (o.Record n) = 0
+outcomeNumber o.Mark = 0
+outcomeNumber o.End = 0
+outcomeNumber o.Bad = 0
+outcomeNumber o.Stray = 0
+outcomeNumber (o.Cut q) = 0
+outcomeNumber (o.Refused n) = n
 
 -- the bytes handed out: a record's
 abbrev pub recordOf : Told → List ℕ

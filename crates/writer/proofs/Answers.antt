@@ -11,11 +11,11 @@ use Rattle.writer.specs.declared.WriterState.{WriterState}
 use Rattle.writer.specs.declared.Reply.the-variants.{Plain, Warned, Refused}
 use Rattle.writer.specs.declared.Wrote.{Wrote}
 use Rattle.writer.specs.Items.{Item, rec, blocksFor, size}
-use Rattle.writer.specs.Writing.{itemNumber, closeNumber, Done, stay, judged, moved, warns, taken, ended, answer, write, close, Did}
+use Rattle.writer.specs.Writing.{itemNumber, closeNumber, Done, stay, judged, moved, warns, taken, ended, wroteOf, write, close, Did}
 use Rattle.writer.proofs.Judged.{judged-refused}
 
 did-as : {d e : Done} {r : Wrote} {image′ : List ℕ} → d ≡ e → Did e r image′ → Did d r image′
-did-as q p = record { says = p .says ∙ ap answer (sym q); leaves = p .leaves ∙ ap (λ (x : Done). x .image) (sym q) }
+did-as q p = record { says = p .says ∙ ap wroteOf (sym q); leaves = p .leaves ∙ ap (λ (x : Done). x .image) (sym q) }
 
 module _ (s : WriterState) (key image : List ℕ) where
   pub write-refused : (i : Item) {n : ℕ} → n ≡ itemNumber s key image i → (n ≡ 0 → ⊥) → Did (write s key image i) (record { state = s; reply = Refused n }) image

@@ -13,7 +13,7 @@ use Rattle.block.specs.Image.{blockAt}
 use Rattle.block.proofs.ImageLaws.{length-lay, lay-else, lay-at}
 use Rattle.writer.specs.declared.WriterState.{WriterState}
 use Rattle.writer.specs.Items.{Item, size, blocks}
-use Rattle.writer.specs.Writing.{numberOf, itemNumber, closeNumber, taken, ended, write, close}
+use Rattle.writer.specs.Writing.{replyNumber, itemNumber, closeNumber, taken, ended, write, close}
 use Rattle.writer.proofs.Pieces.{length-blocks}
 use Rattle.writer.proofs.Ready.{facts, item-fits, close-ready}
 use Rattle.writer.proofs.Judged.{judged-keeps}
@@ -31,13 +31,13 @@ closing-within s key image e = let f = facts (close-ready s key image e) in omeg
 
 module _ (s : WriterState) (key image : List ℕ) where
   -- ---- what is taken stands there, sealed for its place
-  pub writes-its-blocks : (i : Item) (j : ℕ) → numberOf (write s key image i .reply) ≡ 0 → j < size i
+  pub writes-its-blocks : (i : Item) (j : ℕ) → replyNumber (write s key image i .reply) ≡ 0 → j < size i
       → blockAt (write s key image i .image) (s .position + j) ≡ sealBlock key (s .id) (s .recording) (s .position + j) (getD (blocks i) j shut)
   writes-its-blocks i j e l =
       let w = item-within s key image i (sym (write-number s key image i) ∙ e) in
       rw (write-when s key image i 0 e) (lay-at key (s .id) (s .recording) (blocks i) image (s .position) j w (omega (arith, length-blocks i)))
 
-  pub closing-writes-eod : numberOf (close s key image .reply) ≡ 0 → blockAt (close s key image .image) (s .position) ≡ sealBlock key (s .id) (s .recording) (s .position) (head eod)
+  pub closing-writes-eod : replyNumber (close s key image .reply) ≡ 0 → blockAt (close s key image .image) (s .position) ≡ sealBlock key (s .id) (s .recording) (s .position) (head eod)
   closing-writes-eod e =
       let w = closing-within s key image (sym (close-number s key image) ∙ e) in
       rw (close-when s key image 0 e) (rw add-zero at (lay-at key (s .id) (s .recording) (head eod ∷ []) image (s .position) 0 w (omega arith)))

@@ -32,18 +32,18 @@ size-pos (rec b) d = d .some
 size-pos fmark d = omega arith
 
 -- ---- a record's payloads: one at least and 64 at the most, and together they are the record
-abbrev pub flat : List (List ℕ) → List ℕ
-flat [] = []
-flat (x ∷ xs) = x ++ flat xs
+abbrev pub joined-up : List (List ℕ) → List ℕ
+joined-up [] = []
+joined-up (x ∷ xs) = x ++ joined-up xs
 
-flat-pieces : (k : ℕ) (b : List ℕ) → length b ≤ 488 * k → flat (pieces k b) ≡ b
+pieces-joined : (k : ℕ) (b : List ℕ) → length b ≤ 488 * k → joined-up (pieces k b) ≡ b
 unfolding pieces
-flat-pieces zero [] h = refl
-flat-pieces zero (x ∷ b) h = absurd (omega arith)
-flat-pieces (suc k) b h = rw (flat-pieces k (drop 488 b) (simp length-drop (omega arith))) (take-append-drop 488 b)
+pieces-joined zero [] h = refl
+pieces-joined zero (x ∷ b) h = absurd (omega arith)
+pieces-joined (suc k) b h = rw (pieces-joined k (drop 488 b) (simp length-drop (omega arith))) (take-append-drop 488 b)
 
 pub record Cutting (b : List ℕ) (xs : List (List ℕ)) : Type 0 where
-  pub joined : flat xs ≡ b
+  pub joined : joined-up xs ≡ b
   pub count : length xs ≡ size (rec b)
   pub some : 1 ≤ length xs
   pub few : length xs ≤ 64
@@ -54,4 +54,4 @@ cutting b d =
     let l = length-pieces (size (rec b)) b in
     let s = d .some in
     let f = d .few in
-    record { joined = flat-pieces (size (rec b)) b (omega arith); count = l; some = omega arith; few = omega arith }
+    record { joined = pieces-joined (size (rec b)) b (omega arith); count = l; some = omega arith; few = omega arith }

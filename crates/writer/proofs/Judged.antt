@@ -4,7 +4,7 @@ use mathlib.Core.Path.{_≡_, refl}
 use mathlib.Core.List.{List}
 use Prim.Native.Nat.{ℕ, zero, suc}
 use Rattle.writer.specs.declared.WriterState.{WriterState}
-use Rattle.writer.specs.Writing.{numberOf, Done, stay, judged}
+use Rattle.writer.specs.Writing.{replyNumber, Done, stay, judged}
 
 module _ (d : Done) (s : WriterState) (image : List ℕ) where
   pub judged-refused : (n : ℕ) → (n ≡ 0 → ⊥) → judged d s image n ≡ stay s image n
@@ -12,7 +12,7 @@ module _ (d : Done) (s : WriterState) (image : List ℕ) where
   judged-refused (suc n) h = refl
 
   -- the number in the answer is the one that it is judged by
-  pub judged-number : numberOf (d .reply) ≡ 0 → (n : ℕ) → numberOf (judged d s image n .reply) ≡ n
+  pub judged-number : replyNumber (d .reply) ≡ 0 → (n : ℕ) → replyNumber (judged d s image n .reply) ≡ n
   judged-number z zero = z
   judged-number z (suc n) = refl
 

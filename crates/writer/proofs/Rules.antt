@@ -15,44 +15,44 @@ use Rattle.block.proofs.ImageSize.{image-sized}
 use Rattle.writer.specs.declared.WriterState.{WriterState}
 use Rattle.writer.specs.declared.Reply.the-variants.{Plain, Warned, Refused}
 use Rattle.writer.specs.Items.{Item, rec, fmark, size}
-use Rattle.writer.specs.Writing.{numberOf, zoneOk, placeOk, lawful, lengthOk, room, startNumber, itemNumber, closeNumber}
+use Rattle.writer.specs.Writing.{replyNumber, zoneOk, placeOk, lawful, lengthOk, room, startNumber, itemNumber, closeNumber}
 use Rattle.writer.specs.Writing.{Done, stay, judged, moved, warns, refusedState, started, taken, ended, start, write, close}
 use Rattle.writer.proofs.Judged.{judged-number}
 use Rattle.writer.proofs.Ready.{Ready, facts, StateLawful, lawfully, lawful-holds, call-asks, close-ready, item-asks, item-fits}
 
 -- ---- the number in the answer is that of the first cause, and 0 says that the call was taken
-warns-0 : (s : WriterState) (i : Item) (p : ℕ) → numberOf (warns s i p) ≡ 0
+warns-0 : (s : WriterState) (i : Item) (p : ℕ) → replyNumber (warns s i p) ≡ 0
 warns-0 s (rec b) p = either (ltb (s .capacity - s .zone) p)
   where
-    either : (t : Bool) → numberOf (pick t Warned Plain) ≡ 0
+    either : (t : Bool) → replyNumber (pick t Warned Plain) ≡ 0
     either true = refl
     either false = refl
 warns-0 s fmark p = refl
 
-pub write-number : (s : WriterState) (key image : List ℕ) (i : Item) → numberOf (write s key image i .reply) ≡ itemNumber s key image i
+pub write-number : (s : WriterState) (key image : List ℕ) (i : Item) → replyNumber (write s key image i .reply) ≡ itemNumber s key image i
 unfolding write
 write-number s key image i = judged-number (taken s key image i) s image (warns-0 s i (s .position + size i)) (itemNumber s key image i)
 
-pub close-number : (s : WriterState) (key image : List ℕ) → numberOf (close s key image .reply) ≡ closeNumber s key image
+pub close-number : (s : WriterState) (key image : List ℕ) → replyNumber (close s key image .reply) ≡ closeNumber s key image
 unfolding close
 close-number s key image = judged-number (ended s key image) s image refl (closeNumber s key image)
 
-pub start-number : (id recording e : ℕ) (image : List ℕ) → numberOf (start id recording e image .reply) ≡ startNumber image e
+pub start-number : (id recording e : ℕ) (image : List ℕ) → replyNumber (start id recording e image .reply) ≡ startNumber image e
 unfolding start
 start-number id recording e image = judged-number (started id recording e image) refusedState _ refl (startNumber image e)
 
 -- ---- what a call is, by its number
-pub write-when : (s : WriterState) (key image : List ℕ) (i : Item) (n : ℕ) → numberOf (write s key image i .reply) ≡ n
+pub write-when : (s : WriterState) (key image : List ℕ) (i : Item) (n : ℕ) → replyNumber (write s key image i .reply) ≡ n
     → write s key image i ≡ judged (taken s key image i) s image n
 unfolding write
 write-when s key image i n e = ap (judged (taken s key image i) s image) (sym (write-number s key image i) ∙ e)
 
-pub close-when : (s : WriterState) (key image : List ℕ) (n : ℕ) → numberOf (close s key image .reply) ≡ n
+pub close-when : (s : WriterState) (key image : List ℕ) (n : ℕ) → replyNumber (close s key image .reply) ≡ n
     → close s key image ≡ judged (ended s key image) s image n
 unfolding close
 close-when s key image n e = ap (judged (ended s key image) s image) (sym (close-number s key image) ∙ e)
 
-pub start-when : (id recording e : ℕ) (image : List ℕ) (n : ℕ) → numberOf (start id recording e image .reply) ≡ n
+pub start-when : (id recording e : ℕ) (image : List ℕ) (n : ℕ) → replyNumber (start id recording e image .reply) ≡ n
     → start id recording e image ≡ judged (started id recording e image) refusedState image n
 unfolding start
 start-when id recording e image n q = ap (judged (started id recording e image) refusedState image) (sym (start-number id recording e image) ∙ q)
@@ -67,18 +67,18 @@ warns-taken s (rec b) p m e = either (ltb (s .capacity - s .zone) p) e
     either false e = let z : _≡_ {A = ℕ} 0 1 = cc in omega arith
 warns-taken s fmark p m e = let z : _≡_ {A = ℕ} 0 1 = cc in omega arith
 
-pub number-0-taken : (s : WriterState) (key image : List ℕ) (i : Item) (m : ℕ) → numberOf (write s key image i .reply) ≡ 0
+pub number-0-taken : (s : WriterState) (key image : List ℕ) (i : Item) (m : ℕ) → replyNumber (write s key image i .reply) ≡ 0
     → write s key image i .reply ≡ Refused m → ⊥
 number-0-taken s key image i m e r =
     warns-taken s i (s .position + size i) m (sym (ap (λ (d : Done). d .reply) (write-when s key image i 0 e)) ∙ r)
 
 -- an item of k blocks at p of c: taken exactly if p + k ≤ c - 1, and else refused 5
 module _ (s : WriterState) (key image : List ℕ) (i : Item) (r : Ready s key image) (l : lengthOk i ≡ true) where
-  number-is : numberOf (write s key image i .reply) ≡ firstOf (room (s .capacity) (s .position) (size i)) 5 0
+  number-is : replyNumber (write s key image i .reply) ≡ firstOf (room (s .capacity) (s .position) (size i)) 5 0
   number-is = write-number s key image i ∙ item-asks r i ∙ rw l
 
-  pub taken-exactly : (numberOf (write s key image i .reply) ≡ 0 → s .position + size i ≤ s .capacity - 1)
-      × (s .position + size i ≤ s .capacity - 1 → numberOf (write s key image i .reply) ≡ 0)
+  pub taken-exactly : (replyNumber (write s key image i .reply) ≡ 0 → s .position + size i ≤ s .capacity - 1)
+      × (s .position + size i ≤ s .capacity - 1 → replyNumber (write s key image i .reply) ≡ 0)
   unfolding room
   taken-exactly = (
     λ e. let t = item-fits s key image i (sym (write-number s key image i) ∙ e) in omega arith,
@@ -101,11 +101,11 @@ room-for-closing s key image r =
     (ap (λ (d : Done). d .reply) (close-when s key image 0 (close-number s key image ∙ call-asks r 0)), omega arith)
 
 -- ---- refused, all stays
-pub refused-leaves : (s : WriterState) (key image : List ℕ) (i : Item) (n : ℕ) → numberOf (write s key image i .reply) ≡ suc n
+pub refused-leaves : (s : WriterState) (key image : List ℕ) (i : Item) (n : ℕ) → replyNumber (write s key image i .reply) ≡ suc n
     → write s key image i ≡ stay s image (suc n)
 refused-leaves s key image i n e = write-when s key image i (suc n) e
 
-pub refused-closing : (s : WriterState) (key image : List ℕ) (n : ℕ) → numberOf (close s key image .reply) ≡ suc n
+pub refused-closing : (s : WriterState) (key image : List ℕ) (n : ℕ) → replyNumber (close s key image .reply) ≡ suc n
     → close s key image ≡ stay s image (suc n)
 refused-closing s key image n e = close-when s key image (suc n) e
 
@@ -114,7 +114,7 @@ and-false : (t : Bool) → (t && false) ≡ false
 and-false true = refl
 and-false false = refl
 
-pub refused-start : (id recording e : ℕ) (image : List ℕ) (n : ℕ) → numberOf (start id recording e image .reply) ≡ suc n
+pub refused-start : (id recording e : ℕ) (image : List ℕ) (n : ℕ) → replyNumber (start id recording e image .reply) ≡ suc n
     → (start id recording e image .image ≡ image) × ((c : ℕ) → lawful (start id recording e image .state) c ≡ false)
 unfolding lawful zoneOk
 refused-start id recording e image n q =
@@ -122,16 +122,16 @@ refused-start id recording e image n q =
     (ap (λ (d : Done). d .image) w, λ c. rw w (and-false (eqb 0 c)))
 
 -- ---- the position moves by the item's size, by one at the closing
-pub moves-by-size : (s : WriterState) (key image : List ℕ) (i : Item) → numberOf (write s key image i .reply) ≡ 0
+pub moves-by-size : (s : WriterState) (key image : List ℕ) (i : Item) → replyNumber (write s key image i .reply) ≡ 0
     → write s key image i .state ≡ moved s (s .position + size i) false
 moves-by-size s key image i e = ap (λ (d : Done). d .state) (write-when s key image i 0 e)
 
-pub closing-moves-by-1 : (s : WriterState) (key image : List ℕ) → numberOf (close s key image .reply) ≡ 0
+pub closing-moves-by-1 : (s : WriterState) (key image : List ℕ) → replyNumber (close s key image .reply) ≡ 0
     → close s key image .state ≡ moved s (s .position + 1) true
 closing-moves-by-1 s key image e = ap (λ (d : Done). d .state) (close-when s key image 0 e)
 
 -- ---- warned exactly
-pub warned-says : (s : WriterState) (key image : List ℕ) (i : Item) → numberOf (write s key image i .reply) ≡ 0
+pub warned-says : (s : WriterState) (key image : List ℕ) (i : Item) → replyNumber (write s key image i .reply) ≡ 0
     → write s key image i .reply ≡ warns s i (s .position + size i)
 warned-says s key image i e = ap (λ (d : Done). d .reply) (write-when s key image i 0 e)
 
@@ -139,7 +139,7 @@ plain-or-warned : (t : Bool) → pick t Warned Plain ≡ Warned → t ≡ true
 plain-or-warned true e = refl
 plain-or-warned false e = let z : _≡_ {A = ℕ} 0 1 = cc in absurd (omega arith)
 
-pub warned-exactly : (s : WriterState) (key image : List ℕ) (b : List ℕ) → numberOf (write s key image (rec b) .reply) ≡ 0
+pub warned-exactly : (s : WriterState) (key image : List ℕ) (b : List ℕ) → replyNumber (write s key image (rec b) .reply) ≡ 0
     → (write s key image (rec b) .reply ≡ Warned → s .capacity - s .zone < s .position + size (rec b))
     × (s .capacity - s .zone < s .position + size (rec b) → write s key image (rec b) .reply ≡ Warned)
 warned-exactly s key image b e =
@@ -149,10 +149,10 @@ warned-exactly s key image b e =
       λ h. w ∙ rw (lt-ltb (s .capacity - s .zone) p h),
     )
 
-pub mark-plain : (s : WriterState) (key image : List ℕ) → numberOf (write s key image fmark .reply) ≡ 0 → write s key image fmark .reply ≡ Plain
+pub mark-plain : (s : WriterState) (key image : List ℕ) → replyNumber (write s key image fmark .reply) ≡ 0 → write s key image fmark .reply ≡ Plain
 mark-plain s key image e = warned-says s key image fmark e
 
-pub closing-plain : (s : WriterState) (key image : List ℕ) → numberOf (close s key image .reply) ≡ 0 → close s key image .reply ≡ Plain
+pub closing-plain : (s : WriterState) (key image : List ℕ) → replyNumber (close s key image .reply) ≡ 0 → close s key image .reply ≡ Plain
 closing-plain s key image e = ap (λ (d : Done). d .reply) (close-when s key image 0 e)
 
 -- ---- the state stays lawful
@@ -162,7 +162,7 @@ open-holds s p c l h =
     lawful-holds (moved s p false) c
     (record { capacity-is = l .capacity-is; zone-ok = l .zone-ok; place-ok = lt-ltb p (s .capacity) (omega (arith, l .capacity-is)) })
 
-pub stays-lawful : (s : WriterState) (key image : List ℕ) (i : Item) → numberOf (write s key image i .reply) ≡ 0
+pub stays-lawful : (s : WriterState) (key image : List ℕ) (i : Item) → replyNumber (write s key image i .reply) ≡ 0
     → lawful (write s key image i .state) (capacityOf image) ≡ true
 stays-lawful s key image i e =
     let t = item-fits s key image i (sym (write-number s key image i) ∙ e) in
@@ -177,7 +177,7 @@ closed-holds s p c l n h =
     lawful-holds (moved s p true) c
     (record { capacity-is = l .capacity-is; zone-ok = l .zone-ok; place-ok = rw (le-leb 1 p n, le-leb p (s .capacity) m) })
 
-pub closing-stays-lawful : (s : WriterState) (key image : List ℕ) → numberOf (close s key image .reply) ≡ 0
+pub closing-stays-lawful : (s : WriterState) (key image : List ℕ) → replyNumber (close s key image .reply) ≡ 0
     → lawful (close s key image .state) (capacityOf image) ≡ true
 closing-stays-lawful s key image e =
     let r = close-ready s key image (sym (close-number s key image) ∙ e) in
@@ -185,7 +185,7 @@ closing-stays-lawful s key image e =
     rw (closing-moves-by-1 s key image e)
     (closed-holds s (s .position + 1) (capacityOf image) (lawfully s (capacityOf image) (r .is-lawful)) (omega arith) (omega arith))
 
-pub start-lawful : (id recording e : ℕ) (image : List ℕ) → numberOf (start id recording e image .reply) ≡ 0
+pub start-lawful : (id recording e : ℕ) (image : List ℕ) → replyNumber (start id recording e image .reply) ≡ 0
     → lawful (start id recording e image .state) (capacityOf image) ≡ true
 unfolding startNumber lawful placeOk
 start-lawful id recording e image q =

@@ -15,10 +15,10 @@ use Rattle.writer.specs.declared.Wrote.{Wrote}
 use Rattle.writer.specs.Items.{Item, rec, fmark, size, blocks}
 
 -- the number of each answer
-abbrev pub numberOf : Reply → ℕ
-numberOf Plain = 0
-numberOf Warned = 0
-numberOf (Refused n) = n
+abbrev pub replyNumber : Reply → ℕ
+replyNumber Plain = 0
+replyNumber Warned = 0
+replyNumber (Refused n) = n
 
 -- ---- what is asked of a zone and a state
 -- 1 to c - 1
@@ -118,9 +118,9 @@ unfoldable pub close : WriterState → List ℕ → List ℕ → Done
 close s key image = judged (ended s key image) s image (closeNumber s key image)
 
 -- ---- what a call promises
-abbrev pub answer : Done → Wrote
-answer d = record { state = d .state; reply = d .reply }
+abbrev pub wroteOf : Done → Wrote
+wroteOf d = record { state = d .state; reply = d .reply }
 
 pub record Did (d : Done) (r : Wrote) (image′ : List ℕ) : Type 0 where
-  pub says : r ≡ answer d
+  pub says : r ≡ wroteOf d
   pub leaves : image′ ≡ d .image

@@ -1,27 +1,24 @@
--- `notchbadger::writing::flag_number` meets its contract: its tests, one after the other.
+-- `notchbadger::writing::flag_number` meets its contract: image and key, then 8.
 -- Assumes nothing.
 use borrow.Author.Needs.{needs}
-use borrow.Author.Tests.{eq-eqb, ne-eqb}
-use Rattle.laws.proofs.ChooseLaws.{passed, failed}
-use Rattle.block.specs.Image.{imageOk}
+use mathlib.Core.Path.{sym, _∙_}
+use Rattle.block.proofs.ImageSize.{asks-refused, asks-rest, asked}
 use Rattle.notchbadger.specs.FlatWriter.{flagNumber}
 use Rattle.notchbadger.proofs.writing.flag_number.Statement.{statement}
 use Rattle.notchbadger.proofs.writing.flag_number.Tie as tie
 
-is-image-requires : tie.Need-is-image-requires
-is-image-requires c κs = search needs
+image-then-key-requires : tie.Need-image-then-key-requires
+image-then-key-requires c κs = search needs
 
 returns : tie.Need-returns
-unfolding flagNumber imageOk
-returns c = rw (failed (c .before .is-image .ensures) (c .if1 .taken))
+unfolding flagNumber
+returns c =
+    let e = c .before .image-then-key .ensures in
+    e ∙ sym (asks-refused _ _ 8 (λ z. c .if1 .taken (e ∙ z)))
 
 returns-2 : tie.Need-returns-2
-unfolding flagNumber imageOk
-returns-2 c = rw (passed (c .before .before .is-image .ensures) (c .before .if1 .left), ne-eqb _ _ (c .if2 .taken))
-
-returns-3 : tie.Need-returns-3
-unfolding flagNumber imageOk
-returns-3 c = rw (passed (c .before .before .is-image .ensures) (c .before .if1 .left), eq-eqb _ _ (c .if2 .left))
+unfolding flagNumber
+returns-2 c = sym (asks-rest _ _ (asked _ _ 0 (sym (c .before .image-then-key .ensures) ∙ c .if1 .left) .0) 8)
 
 pub flag-number-spec : {M : Type 1} → statement M
-flag-number-spec = tie.close (tie.spec is-image-requires returns returns-2 returns-3)
+flag-number-spec = tie.close (tie.spec image-then-key-requires returns returns-2)
