@@ -2,7 +2,6 @@
 #include <stdio.h>
 #include <string.h>
 
-#include "edges.h"
 #include "rehearsal.h"
 #include "vectors.h"
 #include "walk.h"
@@ -14,7 +13,6 @@ static const struct {
     {"vectors.stdin", vectors_stdin},
     {"vectors.stdout", vectors_stdout},
     {"rehearse.stdout", rehearsal_stdout},
-    {"edges.stdout", edges_stdout},
     {"walk.stdout", walk_stdout},
     {"walk.data/reel", walk_image},
     {"walk.data/key", walk_key},

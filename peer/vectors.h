@@ -1,5 +1,6 @@
 /* The stored cases of the program `vectors`: its input, one call a line, and
- * the output it must give.
+ * the output it must give: the paper's tables and vectors, starts of a recording
+ * at the edges of image and zone, and the answer to each call of the input.
  *
  * A line of the input is a letter and six numbers of five digits, 38 bytes
  * with its LF. Byte i of a buffer with seed s begins as s + 17i + 3(i/256),
@@ -22,7 +23,7 @@
 
 #include <stdio.h>
 
-/* Each returns 0, or 1 where a published number is missed. */
+/* Each returns 0, or 1 where a published number, or one that 01 names, is missed. */
 int vectors_stdin(FILE *to);
 int vectors_stdout(FILE *to);
 

@@ -1,22 +1,10 @@
 // walk IMAGE KEY ID RECORDING: what a support engineer runs on a customer's image. Prints the walk, a line an answer (position, outcome, length
 // or place), and the report.
-ghost use Prim.Native.Nat.{_≤_, _<_};
+ghost use Prim.Native.Nat.{_≤_};
 ghost use lib.ListN.{length};
-use libc::STDOUT_FILENO;
+ghost use Rattle.print.specs.Parsing.{Within};
+use print::Parsed;
 use reader::Outcome;
-
-fn say(text: &[u8]) {
-    io::write_all(STDOUT_FILENO, text);
-}
-
-fn show(n: usize) {
-    io::print_decimal(STDOUT_FILENO, n as u64);
-}
-
-fn show_with(name: &[u8], n: usize) {
-    say(name);
-    show(n);
-}
 
 // ---- Input.
 // Fills `buffer` from the file that argument i names, and answers how many bytes it has; a file that can't be opened is named on standard
@@ -36,147 +24,85 @@ fn load(i: usize, buffer: &mut [u8]) -> usize
     got
 }
 
-fn digit(c: u8) -> u64
-    ensures { λ r. ⌜ r < 256 ⌝ }
+// What argument i spells in decimal; with more than 4,096 digits it counts as no number.
+fn argument(i: usize, most: u64) -> Parsed
+    ensures { λ r. ⌜ Within most r ⌝ }
 {
-    if c < 48 { 0 } else { (c - 48) as u64 }
-}
-
-fn is_digit(c: u8) -> bool {
-    if c < 48 {
-        return false;
-    }
-    c <= 57
-}
-
-fn all_digits(text: &[u8]) -> bool {
-    let mut i: usize = 0;
-    while i < text.len() {
-        if !is_digit(text[i]) {
-            return false;
-        }
-        i += 1;
-    }
-    true
-}
-
-// Whether argument i is a decimal number of 1 to 20 digits.
-fn is_number(i: usize) -> bool {
-    let mut text = [0u8; 20];
+    let mut text = io::buffer();
     let n = os::arg(i, &mut text);
-    if n == 0 {
-        return false;
-    }
-    all_digits(&text[..n])
-}
-
-// The number that argument i spells in decimal; what is above `most` is cut to it.
-fn number(i: usize, most: u64) -> u64
-    ensures { λ r. ⌜ r ≤ most ⌝ }
-{
-    let mut text = [0u8; 20];
-    let n = os::arg(i, &mut text);
-    decimal(&text[..n], most)
-}
-
-fn decimal(text: &[u8], most: u64) -> u64
-    ensures { λ r. ⌜ r ≤ most ⌝ }
-{
-    let mut sum: u64 = 0;
-    let mut i: usize = 0;
-    while i < text.len() {
-        sum = up_to(sum, digit(text[i]), most);
-        i += 1;
-    }
-    sum
-}
-
-// 10 * sum + d, or `most` where that is above it.
-fn up_to(sum: u64, d: u64, most: u64) -> u64
-    requires { ⌜ (d < 256) × (sum ≤ most) ⌝ }
-    ensures { λ r. ⌜ r ≤ most ⌝ }
-{
-    if most / 10 < sum {
-        return most;
-    }
-    if most - sum * 10 < d {
-        return most;
-    }
-    sum * 10 + d
+    print::parse(&text[..n], most)
 }
 
 // ---- The walk.
 fn explain(n: u8) {
-    say(b"refused ");
-    show(n as usize);
+    print::named(b"refused ", n as u64);
     match n {
-        1 => say(b": the image is not 4 to 128 whole blocks of 512 bytes\n"),
-        2 => say(b": the key is not 24 bytes\n"),
-        _ => say(b"\n"),
+        1 => print::say(b": the image is not 4 to 128 whole blocks of 512 bytes\n"),
+        2 => print::say(b": the key is not 24 bytes\n"),
+        _ => print::line_end(),
     }
 }
 
-// Says an outcome, and whether the walk goes on.
-fn tell(outcome: Outcome) -> bool {
+fn tell(outcome: Outcome) {
     match outcome {
-        Outcome::Record(n) => {
-            show_with(b" record ", n);
-            true
-        }
-        Outcome::Mark => {
-            say(b" mark");
-            true
-        }
-        Outcome::End => {
-            say(b" end");
-            false
-        }
-        Outcome::Bad => {
-            say(b" bad");
-            true
-        }
-        Outcome::Stray => {
-            say(b" stray");
-            true
-        }
-        Outcome::Cut(q) => {
-            show_with(b" cut ", q);
-            true
-        }
+        Outcome::Record(n) => print::named(b" record ", n as u64),
+        Outcome::Mark => print::say(b" mark"),
+        Outcome::End => print::say(b" end"),
+        Outcome::Bad => print::say(b" bad"),
+        Outcome::Stray => print::say(b" stray"),
+        Outcome::Cut(q) => print::named(b" cut ", q as u64),
+        Outcome::Refused(_) => {}
+    }
+}
+
+// Whether a walk goes on behind this outcome.
+fn goes_on(outcome: Outcome) -> bool {
+    match outcome {
+        Outcome::End => false,
         Outcome::Refused(_) => false,
+        _ => true,
+    }
+}
+
+fn show_answer(p: usize, outcome: Outcome) {
+    print::decimal(p as u64);
+    tell(outcome);
+    print::line_end();
+}
+
+// Reads at p and says the answer; the next position, or the image's end where the walk stops.
+fn visit(key: &[u8], id: u32, recording: u64, image: &[u8], p: usize) -> usize {
+    let mut record = [0u8; 31232];
+    let got = reader::read(key, id, recording, image, p, &mut record);
+    let outcome = got.outcome;
+    show_answer(p, outcome);
+    if goes_on(outcome) {
+        got.next
+    } else {
+        image.len()
     }
 }
 
 // A walk has no more reads than blocks, and an image 128 of them at the most.
 fn walk(key: &[u8], id: u32, recording: u64, image: &[u8]) {
-    let c = image.len() / 512;
-    let mut record = [0u8; 31232];
     let mut p: usize = 0;
     for i in 0usize..128 {
-        if c <= p {
+        if image.len() / 512 <= p {
             return;
         }
-        let got = reader::read(key, id, recording, image, p, &mut record);
-        let outcome = got.outcome;
-        show(p);
-        let on = tell(outcome);
-        say(b"\n");
-        if !on {
-            return;
-        }
-        p = got.next;
+        p = visit(key, id, recording, image, p);
     }
 }
 
 fn report(key: &[u8], id: u32, recording: u64, image: &[u8]) {
     let tally = survey::report(key, id, recording, image);
-    show_with(b"records ", tally.records);
-    show_with(b" marks ", tally.marks);
-    show_with(b" ends ", tally.ends);
-    show_with(b" bads ", tally.bads);
-    show_with(b" strays ", tally.strays);
-    show_with(b" cuts ", tally.cuts);
-    say(b"\n");
+    print::named(b"records ", tally.records as u64);
+    print::named(b" marks ", tally.marks as u64);
+    print::named(b" ends ", tally.ends as u64);
+    print::named(b" bads ", tally.bads as u64);
+    print::named(b" strays ", tally.strays as u64);
+    print::named(b" cuts ", tally.cuts as u64);
+    print::line_end();
 }
 
 fn serve(key: &[u8], id: u32, recording: u64, image: &[u8]) {
@@ -195,27 +121,29 @@ fn run(id: u32, recording: u64) {
     let mut key = [0u8; 25];
     let n = load(1, &mut image);
     let k = load(2, &mut key);
-    serve(&key[..k], id, recording, &image[..n]);
+    serve(&key[0..k], id, recording, &image[0..n]);
+}
+
+fn with_id(id: u32) {
+    match argument(4, 18446744073709551615) {
+        Parsed::Is(recording) => run(id, recording),
+        Parsed::Above => print::say(b"the recording number is above 18446744073709551615\n"),
+        Parsed::Not => print::say(b"the recording number is not a decimal number\n"),
+    }
+}
+
+fn with_arguments() {
+    match argument(3, 4294967295) {
+        Parsed::Is(id) => with_id(id as u32),
+        Parsed::Above => print::say(b"the cartridge id is above 4294967295\n"),
+        Parsed::Not => print::say(b"the cartridge id is not a decimal number\n"),
+    }
 }
 
 fn main() {
-    if os::arg_count() != 5 {
-        say(b"usage: walk IMAGE KEY ID RECORDING\n");
-        return;
+    if os::arg_count() == 5 {
+        with_arguments();
+    } else {
+        print::say(b"usage: walk IMAGE KEY ID RECORDING\n");
     }
-    if !is_number(3) {
-        say(b"the cartridge id is not a decimal number\n");
-        return;
-    }
-    if !is_number(4) {
-        say(b"the recording number is not a decimal number\n");
-        return;
-    }
-    let id = number(3, 4294967296);
-    let recording = number(4, 18446744073709551615);
-    if 4294967295 < id {
-        say(b"the cartridge id is above 4294967295\n");
-        return;
-    }
-    run(id as u32, recording);
 }

@@ -1,0 +1,2 @@
+-- What a decimal number in an argument may be.
+pub mod Parsing

@@ -1,0 +1,109 @@
+// What the programs share: text, numbers and a writer's reply on standard output, and a decimal number as it stands in an argument.
+ghost use Rattle.print.specs.Parsing.{Within};
+use libc::STDOUT_FILENO;
+use writer::Reply;
+
+const DIGITS: [u8; 16] = *b"0123456789ABCDEF";
+
+// ---- Writing.
+pub fn say(text: &[u8]) {
+    io::write_all(STDOUT_FILENO, text);
+}
+
+pub fn line_end() {
+    say(b"\n");
+}
+
+pub fn decimal(n: u64) {
+    io::print_decimal(STDOUT_FILENO, n);
+}
+
+// A text and the number behind it.
+pub fn named(name: &[u8], n: u64) {
+    say(name);
+    decimal(n);
+}
+
+fn digit(n: u8) -> u8 {
+    DIGITS[(n % 16) as usize]
+}
+
+pub fn hex_byte(b: u8) {
+    let pair = [digit(b / 16), digit(b)];
+    say(&pair);
+}
+
+pub fn hex(bytes: &[u8]) {
+    let mut i: usize = 0;
+    while i < bytes.len() {
+        hex_byte(bytes[i]);
+        i += 1;
+    }
+}
+
+pub fn reply(reply: Reply) {
+    match reply {
+        Reply::Plain => say(b"plain"),
+        Reply::Warned => say(b"warned"),
+        Reply::Refused(n) => named(b"refused ", n as u64),
+    }
+}
+
+// ---- Reading.
+// What a text spells in decimal: a number, one above the greatest that is asked for, or none.
+pub enum Parsed {
+    Is(u64),
+    Above,
+    Not,
+}
+
+// Any number of digits, one at least; zeros in front count for nothing.
+pub fn parse(text: &[u8], most: u64) -> Parsed
+    ensures { λ r. ⌜ Within most r ⌝ }
+{
+    if text.len() == 0 {
+        return Parsed::Not;
+    }
+    let mut parsed = Parsed::Is(0);
+    let mut i: usize = 0;
+    while i < text.len() {
+        parsed = longer(parsed, text[i], most);
+        i += 1;
+    }
+    parsed
+}
+
+// What is spelled with c behind it.
+fn longer(parsed: Parsed, c: u8, most: u64) -> Parsed
+    ensures { λ r. ⌜ Within most r ⌝ }
+{
+    if c < 48 {
+        return Parsed::Not;
+    }
+    if 57 < c {
+        return Parsed::Not;
+    }
+    match parsed {
+        Parsed::Is(n) => grown(n, c - 48, most),
+        Parsed::Above => Parsed::Above,
+        Parsed::Not => Parsed::Not,
+    }
+}
+
+fn wide(x: u8) -> u64 {
+    x as u64
+}
+
+// 10 n + d, where that is not above `most`.
+fn grown(n: u64, digit: u8, most: u64) -> Parsed
+    ensures { λ r. ⌜ Within most r ⌝ }
+{
+    let d = wide(digit);
+    if most / 10 < n {
+        return Parsed::Above;
+    }
+    if most - n * 10 < d {
+        return Parsed::Above;
+    }
+    Parsed::Is(n * 10 + d)
+}
