@@ -5,7 +5,7 @@ use Prim.Native.Nat.{ℕ, _-_}
 use lib.ListN.{getD, take, replicate}
 use Rattle.permutation.specs.Table.{S}
 use Rattle.permutation.specs.Field.{only, double}
-use Rattle.permutation.specs.Permutation.{stateBy, target, mix}
+use Rattle.permutation.specs.Permutation.{stateBy, shift, mix}
 use Rattle.sponge.specs.Blink.{padClose}
 use Rattle.writer.specs.declared.Reply.{Reply}
 use Rattle.writer.specs.declared.Reply.the-variants.{Plain, Warned, Refused}
@@ -18,6 +18,10 @@ pub record Case : Type 0 where
 
 unfoldable pub one-then-zeros : List ℕ
 one-then-zeros = stateBy (λ k. only (1 - k) 1)
+
+-- the state whose byte at k is k
+unfoldable pub numbered : List ℕ
+numbered = stateBy (λ k. k)
 
 -- a zero state that is closed after n bytes
 unfoldable pub closed : ℕ → ℕ → List ℕ
@@ -49,10 +53,10 @@ cases =
     record { found = S 0x80 ∷ []; said = 0x97 ∷ [] } ∷
     -- P4 doubling of 80
     record { found = double 0x80 ∷ []; said = 0x1D ∷ [] } ∷
-    -- P5 where shift moves byte 9
-    record { found = target 9 ∷ []; said = 17 ∷ [] } ∷
-    -- P6 byte 63
-    record { found = target 63 ∷ []; said = 55 ∷ [] } ∷
+    -- P5 shift moves byte 9 to 17
+    record { found = getD (shift numbered) 17 0 ∷ []; said = 9 ∷ [] } ∷
+    -- P6 and byte 63 to 55
+    record { found = getD (shift numbered) 55 0 ∷ []; said = 63 ∷ [] } ∷
     -- P7 mix of 01 and seven zeros
     record { found = take 8 (mix one-then-zeros); said = 0x01 ∷ 0x01 ∷ 0x04 ∷ 0x01 ∷ 0x08 ∷ 0x05 ∷ 0x02 ∷ 0x09 ∷ [] } ∷
     -- P8 closing a 24-byte key: bytes 24 and 32
