@@ -11,7 +11,7 @@ use Rattle.block.specs.Image.{view, capacityOf}
 use Rattle.survey.specs.declared.Tally.{Tally}
 use Rattle.reader.specs.Walk.{Told, Record, Mark, End, Bad, Stray, Cut, Visit, walk}
 use Rattle.survey.specs.Report.{none, counted, tallied, reportNumber, reportOf}
-use Rattle.survey.specs.Marks.{markAt, marksOf, howMany, ofRecord, ofMark, ofEnd, ofBad, ofStray, ofCut, Counts}
+use Rattle.survey.specs.Marks.{howMany, ofRecord, ofMark, ofEnd, ofBad, ofStray, ofCut, Counts}
 use Rattle.reader.proofs.WalkLaws.{walk-length}
 
 -- a number of the tally that each answer x adds g x to
@@ -54,20 +54,6 @@ tallied-counts w =
       strays = tallied-adds (λ t. t .strays) ofStray (λ x t. adds x t .strays) w (none 0) ∙ omega arith;
       cuts = tallied-adds (λ t. t .cuts) ofCut (λ x t. adds x t .cuts) w (none 0) ∙ omega arith;
     }
-
--- ---- the marks counted are the marks that spacing finds
-marks-step : (x : Told) (p : ℕ) (r : List ℕ) → ofMark x + length r ≡ length (markAt x p r)
-marks-step (Record b) p r = omega arith
-marks-step Mark p r = omega arith
-marks-step End p r = omega arith
-marks-step Bad p r = omega arith
-marks-step Stray p r = omega arith
-marks-step (Cut q) p r = omega arith
-
-pub marks-many : (w : List Visit) → howMany ofMark w ≡ length (marksOf w)
-unfolding howMany marksOf
-marks-many [] = refl
-marks-many (x ∷ w) = ap (λ (n : ℕ). ofMark (x .says) + n) (marks-many w) ∙ marks-step (x .says) (x .at) (marksOf w)
 
 -- ---- all counts together
 all-many : (w : List Visit) → howMany (λ x. 1) w ≡ length w

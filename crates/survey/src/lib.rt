@@ -5,12 +5,10 @@ ghost use Prim.Native.Nat.{ℕ, _+_, _-_, _*_, _≤_, _<_, min};
 ghost use lib.ListN.{length};
 ghost use Rattle.block.specs.Calls.{seenOf};
 ghost use Rattle.block.specs.Image.{view};
-ghost use Rattle.reader.specs.Reading.{gotOf};
-ghost use Rattle.reader.specs.Walk.{readAt, gather};
+ghost use Rattle.reader.specs.Walk.{gather};
 ghost use Rattle.survey.specs.Report.{reportOf};
 ghost use Rattle.survey.specs.Spacing.{spaceFrom, spacing};
-ghost use Rattle.survey.specs.Steps.{cutAt, restBy, turn, countedBy, Few, countOn, after};
-use reader::Got;
+ghost use Rattle.survey.specs.Steps.{toldBetween, countedBy, Few, countOn, after};
 use reader::LONGEST;
 use reader::Outcome;
 
@@ -40,16 +38,6 @@ fn seen_at(key: &[u8], id: u32, recording: u64, image: &[u8], q: usize) -> block
     block::open_block(key, id, recording, q as u32, &image[start..], &mut scratch)
 }
 
-// A record cut at q.
-fn cut(q: usize, next: usize) -> Got
-    ensures { λ r. ⌜ r ≡ cutAt q next ⌝ }
-{
-    Got {
-        outcome: Outcome::Cut(q),
-        next: next,
-    }
-}
-
 // Where a record that begins at p ends at the latest: behind its 64th block, or at the end of the c blocks.
 fn record_end(p: usize, c: usize) -> usize
     ensures { λ r. ⌜ r ≡ min c (p + 64) ⌝ }
@@ -60,90 +48,28 @@ fn record_end(p: usize, c: usize) -> usize
     if c - LONGEST < p { c } else { p + LONGEST }
 }
 
-// The rest of a read: the record that begins at p goes on behind its first block, which has `used` bytes.
-fn answer_rest(
-    key: &[u8],
-    id: u32,
-    recording: u64,
-    image: &[u8],
-    p: usize,
-    c: usize,
-    used: usize,
-) -> Got
-    requires { ⌜ (length (now key) ≡ 24) × ((p < c) × ((c * 512 ≤ length (now image)) × ((c ≤ 128) × (used ≤ 488)))) ⌝ }
-    ensures { λ r. ⌜ r ≡ restBy (min (c - (p + 1)) 63) (view (now (key .entry)) id recording (now (image .entry))) (p + 1) used ⌝ }
-{
-    let end = record_end(p, c);
-    let mut held = used;
-    let mut q = p + 1;
-    while q < end {
-        match seen_at(key, id, recording, image, q) {
-            block::Seen::Shut => return cut(q, q + 1),
-            block::Seen::More(last, n) => {
-                if last {
-                    return Got {
-                        outcome: Outcome::Record(held + n),
-                        next: q + 1,
-                    };
-                }
-                held += n;
-            }
-            block::Seen::First(_, _) => return cut(q, q),
-            block::Seen::Mark => return cut(q, q),
-            block::Seen::End => return cut(q, q),
-        }
-        q += 1;
-    }
-    cut(q, q)
-}
+// What is told of a block between records, by number; ON where nothing is told yet, since its record goes on.
+const RECORD: u8 = 0;
 
-// A read at p with no receiving buffer.
-fn answer_at(key: &[u8], id: u32, recording: u64, image: &[u8], p: usize, c: usize) -> Got
-    requires { ⌜ (length (now key) ≡ 24) × ((p < c) × ((c * 512 ≤ length (now image)) × (c ≤ 128))) ⌝ }
-    ensures { λ r. ⌜ r ≡ gotOf (readAt (view (now (key .entry)) id recording (now (image .entry))) c p) ⌝ }
-{
-    match seen_at(key, id, recording, image, p) {
-        block::Seen::Shut => Got {
-            outcome: Outcome::Bad,
-            next: p + 1,
-        },
-        block::Seen::First(last, used) => {
-            if last {
-                Got {
-                    outcome: Outcome::Record(used),
-                    next: p + 1,
-                }
-            } else {
-                answer_rest(key, id, recording, image, p, c, used)
-            }
-        }
-        block::Seen::More(_, _) => Got {
-            outcome: Outcome::Stray,
-            next: p + 1,
-        },
-        block::Seen::Mark => Got {
-            outcome: Outcome::Mark,
-            next: p + 1,
-        },
-        block::Seen::End => Got {
-            outcome: Outcome::End,
-            next: p,
-        },
-    }
-}
+const MARK: u8 = 1;
 
-// 1 for Mark, 2 for End, 0 for the others.
-fn turn_of(o: Outcome) -> u8
-    ensures { λ r. ⌜ r ≡ turn o ⌝ }
+const END: u8 = 2;
+
+const BAD: u8 = 3;
+
+const STRAY: u8 = 4;
+
+const ON: u8 = 255;
+
+fn told_between(seen: block::Seen) -> u8
+    ensures { λ r. ⌜ r ≡ toldBetween seen ⌝ }
 {
-    match o {
-        Outcome::Record(_) => 0,
-        Outcome::Mark => 1,
-        Outcome::End => 2,
-        Outcome::Bad => 0,
-        Outcome::Stray => 0,
-        Outcome::Cut(_) => 0,
-        Outcome::Refused(_) => 0,
+    match seen {
+        block::Seen::Shut => BAD,
+        block::Seen::First(last, _) => { if last { RECORD } else { ON } }
+        block::Seen::More(_, _) => STRAY,
+        block::Seen::Mark => MARK,
+        block::Seen::End => END,
     }
 }
 
@@ -167,18 +93,14 @@ fn space_on(
     if c <= p {
         return Spaced::Short(m, p);
     }
-    let g = answer_at(key, id, recording, image, p, c);
-    let o = g.outcome;
-    let next = g.next;
-    let t = turn_of(o);
-    if t == 2 {
+    let told = told_between(seen_at(key, id, recording, image, p));
+    if told == END {
         return Spaced::Short(m, p);
     }
-    if t == 1 {
-        space_on(key, id, recording, image, c, next, n - 1, m + 1)
-    } else {
-        space_on(key, id, recording, image, c, next, n, m)
+    if told == MARK {
+        return space_on(key, id, recording, image, c, p + 1, n - 1, m + 1);
     }
+    space_on(key, id, recording, image, c, p + 1, n, m)
 }
 
 // Spacing over n marks from p on: the place after the nth, or how many there were and the place of End (or the capacity).
