@@ -2,7 +2,7 @@
 -- Assumes nothing.
 use borrow.Author.Tests.{eq-eqb, ne-eqb, le-leb, lt-leb, lt-ltb, ltb-true}
 use mathlib.Core.Path.{_≡_, refl, sym, ap, _∙_}
-use mathlib.Core.Bool.{Bool, true, false}
+use mathlib.Core.Bool.{true, false}
 use mathlib.Core.List.{List, [], _∷_}
 use mathlib.Core.Logic.{⊎-elim}
 use Prim.Native.Nat.{ℕ, zero, suc, _+_, _-_, _≤_, _<_, min}
@@ -10,27 +10,25 @@ use native.Mathlib.Nat.{add-zero}
 use native.Mathlib.Omega.{arith}
 use lib.Dec.{ltb}
 use lib.ListN.{length, getD}
-use Rattle.laws.specs.Choose.{pick, firstOf}
+use Rattle.laws.specs.Choose.{pick}
 use Rattle.laws.proofs.ChooseLaws.{no-refusal}
 use Rattle.laws.proofs.OrderLaws.{lt-or-ge}
 use Rattle.block.specs.Content.{Content, shut, more, head, first, mark, eod}
-use Rattle.block.specs.Image.{View, view, capacityOf, imageOk}
+use Rattle.block.specs.Image.{View, view, capacityOf}
 use Rattle.survey.specs.declared.Spaced.{Spaced}
 use Rattle.survey.specs.declared.Spaced.the-variants as s
 use Rattle.reader.specs.Walk.{Told, Record, Mark, End, Bad, Stray, Cut, markOrEnd, between, readAt, isEnd, Visit, visit, walkFrom}
-use Rattle.reader.specs.Reading.{keyOk}
 use Rattle.survey.specs.Spacing.{spaceFrom, spaceNumber, spacing}
 use Rattle.survey.specs.Marks.{marksOf, endOf, spacedOver}
+use Rattle.block.proofs.ImageSize.{asked}
 use Rattle.reader.proofs.WalkLaws.{read-onward, walkFrom-over}
 use Rattle.survey.proofs.SpaceLaws.{record-gather, space-none, space-over}
 
 -- ---- what is not refused
-number-place : (i k t : Bool) → firstOf i 1 (firstOf k 2 (firstOf t 8 0)) ≡ 0 → t ≡ true
-number-place i k t e = no-refusal t 7 0 (no-refusal k 1 (firstOf t 8 0) (no-refusal i 0 (firstOf k 2 (firstOf t 8 0)) e .1) .1) .0
-
 inside-image : (key image : List ℕ) (p : ℕ) → spaceNumber key image p ≡ 0 → p ≤ capacityOf image
 unfolding spaceNumber
-inside-image key image p e = let l = ltb-true p (capacityOf image) (number-place (imageOk image) (keyOk key) (ltb p (capacityOf image)) e) in omega arith
+inside-image key image p e =
+    let l = ltb-true p (capacityOf image) (no-refusal (ltb p (capacityOf image)) 7 0 (asked key image _ e .1) .0) in omega arith
 
 -- ---- where a read that says Mark goes on
 next-between : (x : Content) (v : View) (c p : ℕ) → between x v c p .told ≡ Mark → between x v c p .next ≡ suc p

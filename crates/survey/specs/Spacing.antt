@@ -3,9 +3,8 @@ use mathlib.Core.List.{List}
 use Prim.Native.Nat.{ℕ, zero, suc, _+_, _-_}
 use lib.Dec.{eqb, ltb}
 use Rattle.laws.specs.Choose.{pick, firstOf}
-use Rattle.block.specs.Image.{View, capacityOf, imageOk, view}
+use Rattle.block.specs.Image.{View, capacityOf, imageThenKey, view}
 use Rattle.reader.specs.Walk.{markOrEnd, readAt}
-use Rattle.reader.specs.Reading.{keyOk}
 use Rattle.survey.specs.declared.Spaced.{Spaced}
 use Rattle.survey.specs.declared.Spaced.the-variants as s
 
@@ -19,7 +18,7 @@ spaceFrom (suc f) v c p n m =
     (s.Short m p))
 
 unfoldable pub spaceNumber : List ℕ → List ℕ → ℕ → ℕ
-spaceNumber key image p = firstOf (imageOk image) 1 (firstOf (keyOk key) 2 (firstOf (ltb p (capacityOf image)) 8 0))
+spaceNumber key image p = imageThenKey key image (firstOf (ltb p (capacityOf image)) 8 0)
 
 unfoldable pub spacing : List ℕ → ℕ → ℕ → List ℕ → ℕ → ℕ → Spaced
 spacing key id recording image p n =

@@ -20,18 +20,18 @@ use Rattle.survey.proofs.told_between.Kinds as told-between-kinds
 use Rattle.survey.proofs.+space_on.{statement}
 use Rattle.survey.proofs.+space_on.Tie.{close}
 
-abbrev μ-space-on : Measures 2 space-on-kinds.ps ℕ
-μ-space-on κs a = a .1 .1 .1 .1 .0 - a .1 .1 .1 .1 .1 .0
+abbrev μ-space-on : Measures 3 space-on-kinds.ps ℕ
+μ-space-on κs a = a .1 .1 .1 .1 .1 .0 - a .1 .1 .1 .1 .1 .1 .0
 
-abbrev space-on-at : ℕ → In 2 space-on-kinds.ps
-space-on-at t = and 2 space-on-kinds.ps (is 2 space-on-kinds.ps μ-space-on t) space-on.Pre
+abbrev space-on-at : ℕ → In 3 space-on-kinds.ps
+space-on-at t = and 3 space-on-kinds.ps (is 3 space-on-kinds.ps μ-space-on t) space-on.Pre
 
-abbrev space-on-below : ℕ → In 2 space-on-kinds.ps
+abbrev space-on-below : ℕ → In 3 space-on-kinds.ps
 space-on-below t =
-    and 2 space-on-kinds.ps (falls 2 space-on-kinds.ps _<_ μ-space-on t) space-on.Pre
+    and 3 space-on-kinds.ps (falls 3 space-on-kinds.ps _<_ μ-space-on t) space-on.Pre
 
 -- what the calls ask and give
-abbrev callees : (t : ℕ) → In 2 seen-at-kinds.ps × Out 2 seen-at-kinds.ps seen-at-kinds.r × In 0 told-between-kinds.ps × Out 0 told-between-kinds.ps told-between-kinds.r × In 2 space-on-kinds.ps × Out 2 space-on-kinds.ps space-on-kinds.r
+abbrev callees : (t : ℕ) → In 3 seen-at-kinds.ps × Out 3 seen-at-kinds.ps seen-at-kinds.r × In 0 told-between-kinds.ps × Out 0 told-between-kinds.ps told-between-kinds.r × In 3 space-on-kinds.ps × Out 3 space-on-kinds.ps space-on-kinds.r
 callees t = (seen-at-reads.Asked, seen-at-reads.Learnt, told-between-reads.Asked, told-between-reads.Learnt, space-on-below t, space-on.Post)
 
 space-on-returns : (t : ℕ) → space-on-lts.Need-returns (callees t) (space-on-at t) space-on.Post
@@ -52,13 +52,13 @@ space-on-told-between-requires t c κs = search needs
 
 -- what is told of block p
 told : (t : ℕ) (c : space-on-lts.After-told-between (callees t) (space-on-at t) space-on.Post)
-    → let a = c .before .before .before .before .before .before .args in
+    → let a = c .before .before .before .before .before .before .before .args in
     c .told-between .result ≡ toldBetween (seenOf (view (a .key .now) (a .id) (a .recording) (a .image .now) (a .p)))
-told t c = c .told-between .ensures ∙ ap toldBetween (c .before .seen-at .ensures)
+told t c = c .told-between .ensures ∙ ap toldBetween (c .before .seen-at .ensures .1)
 
 space-on-returns-3 : (t : ℕ) → space-on-lts.Need-returns-3 (callees t) (space-on-at t) space-on.Post
 space-on-returns-3 t c =
-    let i = c .before .before .before in
+    let i = c .before .before .before .before in
     let a = i .before .before .before .before .args in
     (λ f h. space-end (view (a .key .now) (a .id) (a .recording) (a .image .now)) (a .c) (a .n) (a .m) (i .before .if1 .left) (a .p) (i .if2 .left) f h (sym (told t (c .before)) ∙ c .if3 .taken))
 
@@ -76,10 +76,10 @@ space-on-space-on-requires t c κs = omega arith
 
 space-on-returns-4 : (t : ℕ) → space-on-lts.Need-returns-4 (callees t) (space-on-at t) space-on.Post
 space-on-returns-4 t c =
-    let i = c .before .before .before .before .before in
+    let i = c .before .before .before .before .before .before .before in
     let a = i .before .before .before .before .args in
     (λ f h. c .space-on .ensures (f - 1) (omega arith)
-    ∙ space-mark (view (a .key .now) (a .id) (a .recording) (a .image .now)) (a .c) (a .n) (a .m) (i .before .if1 .left) (a .p) (i .if2 .left) f h (sym (told t (c .before .before .before)) ∙ c .before .if4 .taken))
+    ∙ space-mark (view (a .key .now) (a .id) (a .recording) (a .image .now)) (a .c) (a .n) (a .m) (i .before .if1 .left) (a .p) (i .if2 .left) f h (sym (told t (c .before .before .before .before)) ∙ c .before .before .if4 .taken))
 
 space-on-add-space-on-3 : (t : ℕ) → space-on-lts.Need-add-space-on-3 (callees t) (space-on-at t) space-on.Post
 space-on-add-space-on-3 t c = omega arith
@@ -89,10 +89,10 @@ space-on-space-on-requires-2 t c κs = omega arith
 
 space-on-returns-5 : (t : ℕ) → space-on-lts.Need-returns-5 (callees t) (space-on-at t) space-on.Post
 space-on-returns-5 t c =
-    let i = c .before .before .before .before .before in
+    let i = c .before .before .before .before .before .before .before in
     let a = i .before .before .before .before .args in
-    let e = told t (c .before .before .before) in
-    (λ f h. space-other (view (a .key .now) (a .id) (a .recording) (a .image .now)) (a .c) (a .n) (a .m) (i .before .if1 .left) (a .p) (i .if2 .left) (c .space-on2 .result) (λ z. c .before .before .if3 .left (e ∙ z)) (λ z. c .before .if4 .left (e ∙ z)) (c .space-on2 .ensures) f h)
+    let e = told t (c .before .before .before .before) in
+    (λ f h. space-other (view (a .key .now) (a .id) (a .recording) (a .image .now)) (a .c) (a .n) (a .m) (i .before .if1 .left) (a .p) (i .if2 .left) (c .space-on2 .result) (λ z. c .before .before .before .if3 .left (e ∙ z)) (λ z. c .before .before .if4 .left (e ∙ z)) (c .space-on2 .ensures) f h)
 
 pub +space-on-spec : {M : Type 1} → statement M
 +space-on-spec = close μ-space-on λ t. space-on-lts.spec (callees t)
