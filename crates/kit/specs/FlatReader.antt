@@ -6,7 +6,7 @@ use lib.ListN.{length}
 use Rattle.reader.specs.declared.Outcome.{Outcome}
 use Rattle.reader.specs.declared.Outcome.the-variants as o
 use Rattle.reader.specs.declared.Got.{Got}
-use Rattle.reader.specs.Reading.{numberOf, readGives, readLeaves, partOf, lookPart, lookPlace}
+use Rattle.reader.specs.Reading.{outcomeNumber, readGives, readLeaves, partOf, lookPart, lookPlace}
 use Rattle.survey.specs.declared.Spaced.{Spaced}
 use Rattle.survey.specs.declared.Spaced.the-variants as s
 use Rattle.survey.specs.declared.Tally.{Tally}
@@ -36,7 +36,7 @@ dataOf (o.Cut q) = q
 dataOf (o.Refused n) = 0
 
 abbrev pub flatGot : Got → NbGot
-flatGot g = record { outcome = outcomeCode (g .outcome); number = numberOf (g .outcome); value = dataOf (g .outcome); next = g .next }
+flatGot g = record { outcome = outcomeCode (g .outcome); number = outcomeNumber (g .outcome); value = dataOf (g .outcome); next = g .next }
 
 pub record FlatRead (key : List ℕ) (id recording : ℕ) (image : List ℕ) (p : ℕ) (buffer : List ℕ) (r : NbGot) (buffer′ : List ℕ) : Type 0 where
   pub says : r ≡ flatGot (readGives key id recording image p (length buffer))

@@ -347,7 +347,7 @@ fn outcome_code(outcome: Outcome) -> u8
 }
 
 fn outcome_number(outcome: Outcome) -> u8
-    ensures { λ r. ⌜ r ≡ Reading.numberOf outcome ⌝ }
+    ensures { λ r. ⌜ r ≡ Reading.outcomeNumber outcome ⌝ }
 {
     match outcome {
         Outcome::Record(_) => 0,

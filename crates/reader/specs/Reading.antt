@@ -1,13 +1,12 @@
 -- What the reader's calls promise (01, "Reading" and "Numbers a caller can get back").
 use mathlib.Core.Path.{_≡_}
-use mathlib.Core.Bool.{Bool}
 use mathlib.Core.List.{List, [], _++_}
 use Prim.Native.Nat.{ℕ, _-_, _*_}
 use lib.Dec.{eqb, leb, ltb}
 use lib.ListN.{length, take, replicate}
 use Rattle.laws.specs.Choose.{pick, firstOf}
 use Rattle.laws.specs.Lists.{splice}
-use Rattle.block.specs.Image.{capacityOf, imageOk, blockAt, view}
+use Rattle.block.specs.Image.{capacityOf, imageOk, imageThenKey, blockAt, view}
 use Rattle.reader.specs.declared.Outcome.{Outcome}
 use Rattle.reader.specs.declared.Outcome.the-variants as o
 use Rattle.reader.specs.declared.Got.{Got}
@@ -22,14 +21,14 @@ outcomeOf Bad = o.Bad
 outcomeOf Stray = o.Stray
 outcomeOf (Cut q) = o.Cut q
 
-abbrev pub numberOf : Outcome → ℕ
-numberOf (o.Record n) = 0
-numberOf o.Mark = 0
-numberOf o.End = 0
-numberOf o.Bad = 0
-numberOf o.Stray = 0
-numberOf (o.Cut q) = 0
-numberOf (o.Refused n) = n
+abbrev pub outcomeNumber : Outcome → ℕ
+outcomeNumber (o.Record n) = 0
+outcomeNumber o.Mark = 0
+outcomeNumber o.End = 0
+outcomeNumber o.Bad = 0
+outcomeNumber o.Stray = 0
+outcomeNumber (o.Cut q) = 0
+outcomeNumber (o.Refused n) = n
 
 -- the bytes handed out: a record's
 abbrev pub recordOf : Told → List ℕ
@@ -41,12 +40,8 @@ recordOf Stray = []
 recordOf (Cut q) = []
 
 -- ---- read: 1 the image, 2 the key or a buffer under 31,232, 8 the position
-unfoldable pub keyOk : List ℕ → Bool
-keyOk key = eqb (length key) 24
-
 unfoldable pub readNumber : List ℕ → List ℕ → ℕ → ℕ → ℕ
-readNumber key image p room =
-    firstOf (imageOk image) 1 (firstOf (keyOk key) 2 (firstOf (leb 31232 room) 2 (firstOf (ltb p (capacityOf image)) 8 0)))
+readNumber key image p room = imageThenKey key image (firstOf (leb 31232 room) 2 (firstOf (ltb p (capacityOf image)) 8 0))
 
 unfoldable pub readAnswer : List ℕ → ℕ → ℕ → List ℕ → ℕ → Answer
 readAnswer key id recording image p = readAt (view key id recording image) (capacityOf image) p
