@@ -48,7 +48,8 @@ fn seen_at(
     block::open_block(key, id, recording, q as u32, &image[start..], scratch)
 }
 
-// What is told of a block, by number: the place of its count in the report. ON where nothing is told yet, since the record goes on.
+// What is told of a block, by number: the place of its count in the report. ON where nothing is told yet, since the
+// record goes on.
 const RECORD: u8 = 0;
 
 const MARK: u8 = 1;
@@ -216,26 +217,19 @@ fn between(
     c: usize,
     p: usize,
 )
-    requires { ⌜ Lent (now key) (now image) (now scratch) c × (p ≤ c) × (length (now counts) ≡ 6) × Few (now counts) p ⌝ }
+    requires { ⌜ Lent (now key) (now image) (now scratch) c × (p ≤ c)
+        × (length (now counts) ≡ 6) × Few (now counts) p ⌝ }
     ensures { λ _. ⌜ ((f : ℕ) → c - p ≤ f
-        → now (counts .exit) ≡ countOn f (view (now (key .entry)) id recording (now (image .entry))) c p (now (counts .entry))) ⌝ }
+        → now (counts .exit)
+        ≡ countOn f (view (now (key .entry)) id recording (now (image .entry))) c p (now (counts .entry))) ⌝ }
 {
     if c <= p {
         return;
     }
     let told = told_between(seen_at(key, id, recording, image, scratch, p));
     if told == ON {
-        inside(
-            key,
-            id,
-            recording,
-            image,
-            scratch,
-            counts,
-            c,
-            record_end(p, c),
-            p + 1,
-        );
+        let end = record_end(p, c);
+        inside(key, id, recording, image, scratch, counts, c, end, p + 1);
         return;
     }
     add_one(counts, told);
@@ -257,9 +251,11 @@ fn inside(
     end: usize,
     q: usize,
 )
-    requires { ⌜ Lent (now key) (now image) (now scratch) c × (0 < q) × (q ≤ end) × (end ≤ c) × (length (now counts) ≡ 6) × Few (now counts) (q - 1) ⌝ }
+    requires { ⌜ Lent (now key) (now image) (now scratch) c × (0 < q) × (q ≤ end) × (end ≤ c)
+        × (length (now counts) ≡ 6) × Few (now counts) (q - 1) ⌝ }
     ensures { λ _. ⌜ ((f : ℕ) (b : List ℕ) → c - q ≤ f
-        → now (counts .exit) ≡ countAnswer (gather (end - q) (view (now (key .entry)) id recording (now (image .entry))) q b)
+        → now (counts .exit)
+        ≡ countAnswer (gather (end - q) (view (now (key .entry)) id recording (now (image .entry))) q b)
         (now (counts .entry)) (countOn f (view (now (key .entry)) id recording (now (image .entry))) c)) ⌝ }
 {
     let s = step_at(key, id, recording, image, scratch, end, q);

@@ -91,7 +91,7 @@ between-returns-2 : (t : ℕ) → between-lts.Need-returns-2 (between-callees t)
 between-returns-2 t c =
     let d = c .before .before .before .before .before in
     let a = d .before .before .before .before .before .before .args in
-    (λ f h. between-told t d f .on (c .before .before .before .before .if2 .taken) _ (c .before .record-end .ensures) _ (λ b. c .inside .ensures (f - 1) b (omega arith))
+    (λ f h. between-told t d f .on (c .before .before .before .before .if2 .taken) _ (c .before .before .before .record-end .ensures) _ (λ b. c .inside .ensures (f - 1) b (omega arith))
     ∙ count-step f (view (a .key .now) (a .id) (a .recording) (a .image .now)) (a .c) (a .p) (a .counts .now) (d .before .before .before .if1 .left) h)
 
 between-add-one-requires : (t : ℕ) → between-lts.Need-add-one-requires (between-callees t) (between-at t) between.Post
