@@ -19,7 +19,8 @@ use Rattle.writer.proofs.InOrder.{length-layout, size-pos, joined-up, Cutting, 
 use Rattle.reader.specs.Walk.{Told, Record, Mark, isEnd, Answer, answer, inside, gather, between, readAt}
 use Rattle.cartridge.specs.Handed.{Handed, hand, given}
 use Rattle.cartridge.specs.Recovered.{whole, intact}
-use Rattle.cartridge.proofs.Scan.{scan, Quiet, Gap, here, step, quiet-scan, scan-gap}
+use Rattle.reader.proofs.GapLaws.{Quiet, Gap, here, step}
+use Rattle.cartridge.proofs.Scan.{scan, quiet-scan, scan-gap}
 
 -- ---- a read of blocks that all open
 

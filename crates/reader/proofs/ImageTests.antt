@@ -1,41 +1,32 @@
 -- What the tests before a read and a look say, where they refuse nothing.
 -- Assumes nothing.
-use borrow.Author.Tests.{eq-eqb, ne-eqb, eqb-true, leb-true, ltb-true}
+use borrow.Author.Tests.{eq-eqb, ne-eqb, leb-true, ltb-true}
 use mathlib.Core.Path.{_≡_, ap, _∙_}
-use mathlib.Core.Bool.{true}
 use mathlib.Core.List.{List}
-use Prim.Native.Nat.{ℕ, _+_, _*_, _/_, _%_, _≤_, _<_}
+use Prim.Native.Nat.{ℕ, _+_, _*_, _/_, _≤_}
 use native.Mathlib.Omega.{arith}
-use lib.Dec.{eqb, leb, ltb}
+use lib.Dec.{leb, ltb}
 use lib.ListN.{length}
-use Rattle.laws.proofs.ChooseLaws.{no-refusal, both-right}
-use Rattle.block.specs.Image.{sizeOk, imageOk, capacityOf}
+use Rattle.laws.proofs.ChooseLaws.{no-refusal}
+use Rattle.block.specs.Image.{imageOk, capacityOf}
 use Rattle.laws.specs.Lists.{splice}
 use Rattle.reader.specs.declared.Outcome.the-variants as o
 use Rattle.reader.specs.declared.Got.{Got}
-use Rattle.reader.specs.Reading.{keyOk, readNumber, readAnswer, gotOf, filled, Read, lookNumber}
-
-pub image-most : (image : List ℕ) → imageOk image ≡ true → length image ≤ 65536
-unfolding imageOk sizeOk
-image-most image e =
-    let n = length image in
-    leb-true n 65536 (both-right (leb 2048 n) (leb n 65536) (both-right (eqb (n % 512) 0) _ e))
+use Rattle.block.proofs.ImageSize.{image-sized, asked}
+use Rattle.reader.specs.Steps.{Readable}
+use Rattle.reader.specs.Reading.{readNumber, readAnswer, gotOf, filled, Read, lookNumber}
 
 -- a read that is not refused
-pub record Readable (key image : List ℕ) (p room : ℕ) : Type 0 where
-  pub key24 : length key ≡ 24
-  pub inside : p < length image / 512
-  pub most : length image ≤ 65536
-  pub enough : 31232 ≤ room
-
 pub readable : (key image : List ℕ) (p room : ℕ) → readNumber key image p room ≡ 0 → Readable key image p room
-unfolding readNumber keyOk capacityOf
+unfolding readNumber capacityOf
 readable key image p room e =
-    let a = no-refusal (imageOk image) 0 _ e in
-    let b = no-refusal (eqb (length key) 24) 1 _ (a .1) in
-    let d = no-refusal (leb 31232 room) 1 _ (b .1) in
+    let a = asked key image _ e in
+    let d = no-refusal (leb 31232 room) 1 _ (a .1) in
     let f = no-refusal (ltb p (length image / 512)) 7 0 (d .1) in
-    record { key24 = eqb-true _ _ (b .0); inside = ltb-true _ _ (f .0); most = image-most image (a .0); enough = leb-true _ _ (d .0) }
+    let z = image-sized image (a .0 .image-ok) in
+    let b = z .blocks in
+    let m = z .most in
+    record { key24 = a .0 .key24; place = ltb-true _ _ (f .0); most = omega arith; enough = leb-true _ _ (d .0) }
 
 -- ---- the call's answers
 module _ {key : List ℕ} {id recording : ℕ} {image : List ℕ} {p : ℕ} {b : List ℕ} where
@@ -58,4 +49,7 @@ look-in image p e =
     let a = no-refusal (imageOk image) 0 _ e in
     let f = no-refusal (ltb p (length image / 512)) 7 0 (a .1) in
     let h = ltb-true p (length image / 512) (f .0) in
-    (omega arith, image-most image (a .0))
+    let z = image-sized image (a .0) in
+    let b = z .blocks in
+    let m = z .most in
+    (omega arith, omega arith)

@@ -4,3 +4,4 @@ pub mod BufferLaws
 pub mod GatherLaws
 pub mod Unique
 pub mod WalkLaws
+pub mod GapLaws

@@ -1,17 +1,15 @@
--- The walk: a read that is not End goes onward and stays on the cartridge; the walk from a place by its steps; no more reads than blocks;
--- what the c blocks show decides the walk. All of it holds of every view.
+-- The walk: a read that is not End goes onward and stays on the cartridge; the walk from a place by its steps; no more reads than blocks.
+-- All of it holds of every view.
 -- Assumes nothing.
 use borrow.Author.Tests.{lt-ltb, le-ltb}
 use mathlib.Core.Path.{_≡_, refl, sym, ap, _∙_}
 use mathlib.Core.Bool.{Bool, true, false, true≢false}
 use mathlib.Core.List.{List, [], _∷_, _++_}
-use mathlib.Core.Logic.{⊎-elim}
 use Prim.Native.Nat.{ℕ, zero, suc, _+_, _-_, _≤_, _<_, min}
 use native.Mathlib.Omega.{arith}
 use lib.Dec.{ltb}
 use lib.ListN.{length}
 use Rattle.laws.specs.Choose.{pick}
-use Rattle.laws.proofs.OrderLaws.{lt-or-ge}
 use Rattle.block.specs.Content.{Content, shut, more, head, first, mark, eod}
 use Rattle.block.specs.Image.{View}
 use Rattle.reader.specs.Walk.{Answer, inside, gather, between, readAt, isEnd, Visit, visit, walkFrom, walk}
@@ -62,30 +60,6 @@ walkFrom-step (suc n) v c p h k =
     rw (lt-ltb p c h)
     (ap (λ (j : ℕ). visit p (readAt v c p .told) ∷ pick (isEnd (readAt v c p .told)) [] (walkFrom j v c (readAt v c p .next))) (sym i))
 
-pub walkFrom-ends : (n : ℕ) (v : View) (c p : ℕ) → p < c → c - p ≤ n → isEnd (readAt v c p .told) ≡ true → walkFrom n v c p ≡ visit p (readAt v c p .told) ∷ []
-walkFrom-ends n v c p h k e = walkFrom-step n v c p h k ∙ rw e
-
-pub walkFrom-goes : (n : ℕ) (v : View) (c p : ℕ) → p < c → c - p ≤ n → isEnd (readAt v c p .told) ≡ false
-    → walkFrom n v c p ≡ visit p (readAt v c p .told) ∷ walkFrom (n - 1) v c (readAt v c p .next)
-walkFrom-goes n v c p h k e = walkFrom-step n v c p h k ∙ rw e
-
--- more reads than there are blocks left change nothing
-pub walkFrom-enough : (n m : ℕ) (v : View) (c p : ℕ) → c - p ≤ n → c - p ≤ m → walkFrom n v c p ≡ walkFrom m v c p
-walkFrom-enough zero m v c p h k = walkFrom-over zero v c p (omega arith) ∙ sym (walkFrom-over m v c p (omega arith))
-walkFrom-enough (suc n) m v c p h k =
-    ⊎-elim (λ l. by l (isEnd (readAt v c p .told)) refl (λ e. let s = read-onward v c p l e .passes in walkFrom-enough n (m - 1) v c (readAt v c p .next) (omega arith) (omega arith)))
-    (λ l. walkFrom-over (suc n) v c p l ∙ sym (walkFrom-over m v c p l)) (lt-or-ge p c)
-  where
-    by : p < c → (b : Bool) → isEnd (readAt v c p .told) ≡ b
-        → (isEnd (readAt v c p .told) ≡ false → walkFrom n v c (readAt v c p .next) ≡ walkFrom (m - 1) v c (readAt v c p .next))
-        → walkFrom (suc n) v c p ≡ walkFrom m v c p
-    by l true e on = walkFrom-ends (suc n) v c p l h e ∙ sym (walkFrom-ends m v c p l k e)
-    by l false e on =
-        let i : suc n - 1 ≡ n = omega arith in
-        walkFrom-goes (suc n) v c p l h e
-        ∙ ap (λ (r : List Visit). visit p (readAt v c p .told) ∷ r) (ap (λ (j : ℕ). walkFrom j v c (readAt v c p .next)) i ∙ on e)
-        ∙ sym (walkFrom-goes m v c p l k e)
-
 -- ---- no more reads than there are blocks
 length-step : (t : Bool) (x : Visit) (r : List Visit) (n : ℕ) → length r ≤ n → length (x ∷ pick t [] r) ≤ suc n
 length-step true x r n h = omega arith
@@ -105,50 +79,3 @@ walkFrom-length (suc n) v c p =
 pub walk-length : (v : View) (c : ℕ) → length (walk v c) ≤ c
 unfolding walk
 walk-length v c = walkFrom-length c v c 0
-
--- ---- a read and the walk look at the c blocks alone
-abbrev pub Same : View → View → ℕ → Type 0
-Same v w c = (q : ℕ) → q < c → v q ≡ w q
-
-inside-same : (x : Content) (q : ℕ) (b : List ℕ) (f g : List ℕ → Answer) → ((d : List ℕ) → f d ≡ g d) → inside x q b f ≡ inside x q b g
-inside-same shut q b f g e = refl
-inside-same (more true d) q b f g e = refl
-inside-same (more false d) q b f g e = e (b ++ d)
-inside-same (head d) q b f g e = refl
-
-module _ (v w : View) (c : ℕ) (same : Same v w c) where
-  gather-same : (room q : ℕ) (b : List ℕ) → q + room ≤ c → gather room v q b ≡ gather room w q b
-  unfolding gather
-  gather-same zero q b h = refl
-  gather-same (suc room) q b h =
-      ap (λ (x : Content). inside x q b (λ d. gather room v (suc q) d)) (same q (omega arith))
-      ∙ inside-same (w q) q b (λ d. gather room v (suc q) d) (λ d. gather room w (suc q) d) (λ d. gather-same room (suc q) d (omega arith))
-
-  between-same : (x : Content) (p : ℕ) → p < c → between x v c p ≡ between x w c p
-  between-same shut p h = refl
-  between-same (more l b) p h = refl
-  between-same (head (first true b)) p h = refl
-  between-same (head (first false b)) p h = gather-same (min (c - suc p) 63) (suc p) b (omega arith)
-  between-same (head mark) p h = refl
-  between-same (head eod) p h = refl
-
-  pub read-same : (p : ℕ) → p < c → readAt v c p ≡ readAt w c p
-  unfolding readAt
-  read-same p h = ap (λ (x : Content). between x v c p) (same p h) ∙ between-same (w p) p h
-
-  step-same : (n p : ℕ) → p < c → ((q : ℕ) → walkFrom n v c q ≡ walkFrom n w c q) → walkFrom (suc n) v c p ≡ walkFrom (suc n) w c p
-  unfolding walkFrom
-  step-same n p l k =
-      rw (lt-ltb p c l)
-      (ap (λ (a : Answer). visit p (a .told) ∷ pick (isEnd (a .told)) [] (walkFrom n v c (a .next))) (read-same p l)
-      ∙ ap (λ (r : List Visit). visit p (readAt w c p .told) ∷ pick (isEnd (readAt w c p .told)) [] r) (k (readAt w c p .next)))
-
-  pub walkFrom-same : (n p : ℕ) → walkFrom n v c p ≡ walkFrom n w c p
-  unfolding walkFrom
-  walkFrom-same zero p = refl
-  walkFrom-same (suc n) p =
-      ⊎-elim (λ l. step-same n p l (λ q. walkFrom-same n q)) (λ l. walkFrom-over (suc n) v c p l ∙ sym (walkFrom-over (suc n) w c p l)) (lt-or-ge p c)
-
-  pub walk-same : walk v c ≡ walk w c
-  unfolding walk
-  walk-same = walkFrom-same c 0

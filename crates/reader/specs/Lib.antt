@@ -1,3 +1,4 @@
 -- What reading a cartridge is.
 pub mod Walk
 pub mod Reading
+pub mod Steps

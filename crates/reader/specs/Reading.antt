@@ -1,13 +1,12 @@
 -- What the reader's calls promise (01, "Reading" and "Numbers a caller can get back").
 use mathlib.Core.Path.{_≡_}
-use mathlib.Core.Bool.{Bool}
 use mathlib.Core.List.{List, [], _++_}
 use Prim.Native.Nat.{ℕ, _-_, _*_}
 use lib.Dec.{eqb, leb, ltb}
 use lib.ListN.{length, take, replicate}
 use Rattle.laws.specs.Choose.{pick, firstOf}
 use Rattle.laws.specs.Lists.{splice}
-use Rattle.block.specs.Image.{capacityOf, imageOk, blockAt, view}
+use Rattle.block.specs.Image.{capacityOf, imageOk, imageThenKey, blockAt, view}
 use Rattle.reader.specs.declared.Outcome.{Outcome}
 use Rattle.reader.specs.declared.Outcome.the-variants as o
 use Rattle.reader.specs.declared.Got.{Got}
@@ -41,12 +40,8 @@ recordOf Stray = []
 recordOf (Cut q) = []
 
 -- ---- read: 1 the image, 2 the key or a buffer under 31,232, 8 the position
-unfoldable pub keyOk : List ℕ → Bool
-keyOk key = eqb (length key) 24
-
 unfoldable pub readNumber : List ℕ → List ℕ → ℕ → ℕ → ℕ
-readNumber key image p room =
-    firstOf (imageOk image) 1 (firstOf (keyOk key) 2 (firstOf (leb 31232 room) 2 (firstOf (ltb p (capacityOf image)) 8 0)))
+readNumber key image p room = imageThenKey key image (firstOf (leb 31232 room) 2 (firstOf (ltb p (capacityOf image)) 8 0))
 
 unfoldable pub readAnswer : List ℕ → ℕ → ℕ → List ℕ → ℕ → Answer
 readAnswer key id recording image p = readAt (view key id recording image) (capacityOf image) p

@@ -13,6 +13,15 @@ pub data Told : Type 0 where
   Mark End Bad Stray : Told
   Cut : ℕ → Told
 
+-- by the outcome: the first for Mark, the second for End, the third for any other
+abbrev pub markOrEnd : {A : Type 0} → Told → A → A → A → A
+markOrEnd (Record b) m e other = other
+markOrEnd Mark m e other = m
+markOrEnd End m e other = e
+markOrEnd Bad m e other = other
+markOrEnd Stray m e other = other
+markOrEnd (Cut q) m e other = other
+
 pub record Answer : Type 0 where
   pub told : Told
   pub next : ℕ
@@ -50,12 +59,7 @@ readAt v c p = between (v p) v c p
 
 -- ---- the walk: reads that begin at 0, follow next, and stop after End or at next = c
 abbrev pub isEnd : Told → Bool
-isEnd (Record b) = false
-isEnd Mark = false
-isEnd End = true
-isEnd Bad = false
-isEnd Stray = false
-isEnd (Cut q) = false
+isEnd t = markOrEnd t false true false
 
 -- an answer, with the place where it was asked for
 pub record Visit : Type 0 where

@@ -1,126 +1,144 @@
--- The walk counted: an answer by what is seen at its place, between records and inside one.
+-- The walk counted: an answer by what is told of each of its blocks, between records and inside one.
 -- Assumes nothing.
+use borrow.Author.Tests.{eqb-true, eqb-false}
 use mathlib.Core.Path.{_≡_, refl, sym, ap, _∙_}
 use mathlib.Core.Bool.{Bool, true, false}
 use mathlib.Core.List.{List, [], _∷_, _++_}
-use Prim.Native.Nat.{ℕ, suc, _+_, _-_, _≤_, _<_, min}
+use Prim.Native.Nat.{ℕ, zero, suc, _+_, _-_, _≤_, _<_, min}
+use native.Mathlib.Nat.{add-zero}
 use native.Mathlib.Numerals.{add-one}
 use native.Mathlib.Omega.{arith}
+use lib.Dec.{eqb}
+use lib.ListN.{length, getD, set, replicate, length-set}
+use lib.Seq.{getD-set-same, getD-set-other}
 use Rattle.laws.specs.Choose.{pick}
 use Rattle.block.specs.Content.{Content, shut, more, head, first, mark, eod}
 use Rattle.block.specs.Image.{View}
 use Rattle.block.specs.Calls.{seenOf}
+use Rattle.reader.specs.Walk.{Told, Answer, gather, between, readAt, isEnd, Visit, visit, walkFrom}
 use Rattle.block.specs.declared.Seen.{Seen}
-use Rattle.block.specs.declared.Seen.the-variants as seen
-use Rattle.reader.specs.declared.Outcome.{Outcome}
-use Rattle.reader.specs.declared.Outcome.the-variants as o
-use Rattle.survey.specs.declared.Tally.{Tally}
-use Rattle.reader.specs.Walk.{Told, Record, Mark, End, Bad, Stray, Cut, inside, gather, between, readAt, isEnd, Visit, visit, walkFrom}
-use Rattle.reader.specs.Reading.{outcomeOf}
-use Rattle.survey.specs.Report.{counted, tallied}
-use Rattle.survey.specs.Steps.{countedBy, Few, countOn, after}
+use Rattle.survey.specs.declared.Step.{Step}
+use Rattle.survey.specs.Report.{placeOf, counted, tallied}
+use Rattle.survey.specs.Steps.{toldBetween, toldInside, passedInside, stepTo, stepBy, Few, countOn, countAnswer}
 use Rattle.reader.proofs.WalkLaws.{walkFrom-over, walkFrom-step}
 
--- an answer counts by its outcome alone
-pub counted-by : (x : Told) (t : Tally) → countedBy (outcomeOf x) t ≡ counted x t
-counted-by (Record b) t = refl
-counted-by Mark t = refl
-counted-by End t = refl
-counted-by Bad t = refl
-counted-by Stray t = refl
-counted-by (Cut q) t = refl
+-- ---- a count goes up by one, the others stay
+pub counted-at : (t : List ℕ) (j k : ℕ) → k < length t → getD (counted j t) k 0 ≡ pick (eqb k j) 1 0 + getD t k 0
+counted-at t j k h = go (eqb k j) refl
+  where
+    go : (b : Bool) → eqb k j ≡ b → getD (counted j t) k 0 ≡ pick b 1 0 + getD t k 0
+    go true e = let i = eqb-true k j e in rw i (getD-set-same t j (getD t j 0 + 1) 0 (omega arith) ∙ omega arith)
+    go false e = getD-set-other t j k (getD t j 0 + 1) 0 (eqb-false k j e) ∙ omega arith
+
+pub counted-length : (j : ℕ) (t : List ℕ) {u : List ℕ} {n : ℕ} → u ≡ counted j t → length t ≡ n → length u ≡ n
+counted-length j t e h = ap length e ∙ length-set t j (getD t j 0 + 1) ∙ h
+
+pub tallied-length : (w : List Visit) (t : List ℕ) → length (tallied w t) ≡ length t
+unfolding tallied
+tallied-length [] t = refl
+tallied-length (x ∷ w) t = tallied-length w (counted (placeOf (x .says)) t) ∙ length-set t (placeOf (x .says)) _
+
+pub count-length : (f : ℕ) (v : View) (c p : ℕ) (t : List ℕ) → length (countOn f v c p t) ≡ length t
+unfolding countOn
+count-length f v c p t = tallied-length (walkFrom f v c p) t
 
 -- ---- counts stay few
-pub few-up : (t : Tally) (p q : ℕ) → Few t p → p ≤ q → Few t q
-few-up t p q h k = record { records = omega arith; marks = omega arith; ends = omega arith; bads = omega arith; strays = omega arith; cuts = omega arith }
+pub few-up : (t : List ℕ) (p q : ℕ) → Few t p → p ≤ q → Few t q
+few-up t p q h k i = let n = h i in omega arith
 
-few-one : (x : Outcome) (t : Tally) (p q : ℕ) → Few t p → p + 1 ≤ q → Few (countedBy x t) q
-few-one (o.Record n) t p q h k = record { records = omega arith; marks = omega arith; ends = omega arith; bads = omega arith; strays = omega arith; cuts = omega arith }
-few-one o.Mark t p q h k = record { records = omega arith; marks = omega arith; ends = omega arith; bads = omega arith; strays = omega arith; cuts = omega arith }
-few-one o.End t p q h k = record { records = omega arith; marks = omega arith; ends = omega arith; bads = omega arith; strays = omega arith; cuts = omega arith }
-few-one o.Bad t p q h k = record { records = omega arith; marks = omega arith; ends = omega arith; bads = omega arith; strays = omega arith; cuts = omega arith }
-few-one o.Stray t p q h k = record { records = omega arith; marks = omega arith; ends = omega arith; bads = omega arith; strays = omega arith; cuts = omega arith }
-few-one (o.Cut x) t p q h k = record { records = omega arith; marks = omega arith; ends = omega arith; bads = omega arith; strays = omega arith; cuts = omega arith }
-few-one (o.Refused x) t p q h k = few-up t p q h (omega arith)
+pub few-none : (n p : ℕ) → Few (replicate n 0) p
+few-none zero p i = omega arith
+few-none (suc n) p zero = omega arith
+few-none (suc n) p (suc i) = few-none n p i
 
-pub few-add : (x : Outcome) (u t : Tally) (p q : ℕ) → u ≡ countedBy x t → Few t p → p + 1 ≤ q → Few u q
-few-add x u t p q e h k = rw e (few-one x t p q h k)
+few-set : (t : List ℕ) (j x q : ℕ) → Few t q → x ≤ q → Few (set t j x) q
+few-set [] j x q h k i = h i
+few-set (y ∷ t) zero x q h k zero = k
+few-set (y ∷ t) zero x q h k (suc i) = h (suc i)
+few-set (y ∷ t) (suc j) x q h k zero = h zero
+few-set (y ∷ t) (suc j) x q h k (suc i) = few-set t j x q (λ n. h (suc n)) k i
 
-pub few-none : (n : ℕ) → Few (record { number = n; records = 0; marks = 0; ends = 0; bads = 0; strays = 0; cuts = 0 }) 0
-few-none n = record { records = omega arith; marks = omega arith; ends = omega arith; bads = omega arith; strays = omega arith; cuts = omega arith }
+pub few-add : (j : ℕ) (u t : List ℕ) (p q : ℕ) → u ≡ counted j t → Few t p → p + 1 ≤ q → Few u q
+few-add j u t p q e h k = rw e (let n = h j in few-set t j (getD t j 0 + 1) q (few-up t p q h (omega arith)) (omega arith))
 
 -- ---- the walk, one read at a time
-pub count-over : (f : ℕ) (v : View) (c p : ℕ) (t : Tally) → c ≤ p → t ≡ countOn f v c p t
+pub count-over : (f : ℕ) (v : View) (c p : ℕ) (t : List ℕ) → c ≤ p → t ≡ countOn f v c p t
 unfolding countOn tallied
 count-over f v c p t h = ap (λ (r : List Visit). tallied r t) (sym (walkFrom-over f v c p h))
 
-count-answer : (b : Bool) (p : ℕ) (x : Told) (r : List Visit) (t : Tally)
-    → pick b (counted x t) (tallied r (counted x t)) ≡ tallied (visit p x ∷ pick b [] r) t
+count-visit : (b : Bool) (p : ℕ) (x : Told) (r : List Visit) (t : List ℕ)
+    → pick b (counted (placeOf x) t) (tallied r (counted (placeOf x) t)) ≡ tallied (visit p x ∷ pick b [] r) t
 unfolding tallied
-count-answer true p x r t = refl
-count-answer false p x r t = refl
+count-visit true p x r t = refl
+count-visit false p x r t = refl
 
-pub count-step : (f : ℕ) (v : View) (c p : ℕ) (t : Tally) → p < c → c - p ≤ f → after (readAt v c p) t (countOn (f - 1) v c) ≡ countOn f v c p t
-unfolding countOn after
+pub count-step : (f : ℕ) (v : View) (c p : ℕ) (t : List ℕ) → p < c → c - p ≤ f → countAnswer (readAt v c p) t (countOn (f - 1) v c) ≡ countOn f v c p t
+unfolding countOn countAnswer
 count-step f v c p t h k =
-    count-answer (isEnd (readAt v c p .told)) p (readAt v c p .told) (walkFrom (f - 1) v c (readAt v c p .next)) t
+    count-visit (isEnd (readAt v c p .told)) p (readAt v c p .told) (walkFrom (f - 1) v c (readAt v c p .next)) t
     ∙ ap (λ (r : List Visit). tallied r t) (sym (walkFrom-step f v c p h k))
 
--- ---- inside a record: r is the count from block q on, seen as x
-module _ (room : ℕ) (v : View) (q : ℕ) (t : Tally) (go : ℕ → Tally → Tally) (r : Tally) where
-  abbrev pub Within : Seen → Type 0
-  Within seen.Shut = r ≡ go (q + 1) (countedBy (o.Cut q) t)
-  Within (seen.More true n) = r ≡ go (q + 1) (countedBy (o.Record n) t)
-  Within (seen.More false n) = (b : List ℕ) → r ≡ after (gather room v (q + 1) b) t go
-  Within (seen.First l n) = r ≡ go q (countedBy (o.Cut q) t)
-  Within seen.Mark = r ≡ go q (countedBy (o.Cut q) t)
-  Within seen.End = r ≡ go q (countedBy (o.Cut q) t)
+-- ---- what is told of block p between records; `go` counts what follows an answer
+module _ (v : View) (c p : ℕ) (t : List ℕ) (go : ℕ → List ℕ → List ℕ) where
+  pub record Outside (told : ℕ) (a : Answer) : Type 0 where
+    pub on : told ≡ 255 → (end : ℕ) → end ≡ min c (p + 64) → (r : List ℕ) → ((b : List ℕ) → r ≡ countAnswer (gather (end - (p + 1)) v (p + 1) b) t go)
+        → r ≡ countAnswer a t go
+    pub end : told ≡ 2 → counted told t ≡ countAnswer a t go
+    pub over : (told ≡ 255 → ⊥) → (told ≡ 2 → ⊥) → go (p + 1) (counted told t) ≡ countAnswer a t go
+    pub few : (told ≡ 255 → ⊥) → told < 6
 
-  within : (x : Content) (b : List ℕ) → Within (seenOf x) → r ≡ after (inside x q b (λ d. gather room v (suc q) d)) t go
-  unfolding after
-  within shut b w = w ∙ ap (λ (n : ℕ). go n (countedBy (o.Cut q) t)) (add-one q)
-  within (more true d) b w = w ∙ ap (λ (n : ℕ). go n (countedBy (o.Record 0) t)) (add-one q)
-  within (more false d) b w = w (b ++ d) ∙ ap (λ (n : ℕ). after (gather room v n (b ++ d)) t go) (add-one q)
-  within (head (first l d)) b w = w
-  within (head mark) b w = w
-  within (head eod) b w = w
-
-pub inside-by : (end : ℕ) (v : View) (q : ℕ) (t : Tally) (go : ℕ → Tally → Tally) (r : Tally) → q < end → (s x : Seen) → s ≡ seenOf (v q) → s ≡ x
-    → Within (end - (q + 1)) v q t go r x → (b : List ℕ) → r ≡ after (gather (end - q) v q b) t go
-unfolding gather
-inside-by end v q t go r h s x e d w b =
-    let k : end - q ≡ suc (end - (q + 1)) = omega arith in
-    let y : x ≡ seenOf (v q) = sym d ∙ e in
-    rw k (within (end - (q + 1)) v q t go r (v q) b (rw (sym y) w))
-
-pub inside-end : (n : ℕ) (v : View) (q : ℕ) (t : Tally) (go : ℕ → Tally → Tally) (b : List ℕ) → n ≡ 0 → go q (countedBy (o.Cut q) t) ≡ after (gather n v q b) t go
-unfolding gather after
-inside-end n v q t go b e = rw e refl
-
--- ---- between records: r is the count from block p on, seen as x
-module _ (v : View) (c p : ℕ) (t : Tally) (go : ℕ → Tally → Tally) (r : Tally) where
-  abbrev pub Begun : Seen → Type 0
-  Begun seen.Shut = r ≡ go (p + 1) (countedBy o.Bad t)
-  Begun (seen.First true n) = r ≡ go (p + 1) (countedBy (o.Record n) t)
-  Begun (seen.First false n) = (b : List ℕ) → r ≡ after (gather (min c (p + 64) - (p + 1)) v (p + 1) b) t go
-  Begun (seen.More l n) = r ≡ go (p + 1) (countedBy o.Stray t)
-  Begun seen.Mark = r ≡ go (p + 1) (countedBy o.Mark t)
-  Begun seen.End = r ≡ countedBy o.End t
-
-  begun : (x : Content) → Begun (seenOf x) → r ≡ after (between x v c p) t go
-  unfolding after
-  begun shut w = w ∙ ap (λ (n : ℕ). go n (countedBy o.Bad t)) (add-one p)
-  begun (more l d) w = w ∙ ap (λ (n : ℕ). go n (countedBy o.Stray t)) (add-one p)
-  begun (head (first true d)) w = w ∙ ap (λ (n : ℕ). go n (countedBy (o.Record 0) t)) (add-one p)
-  begun (head (first false d)) w =
+  outside : (x : Content) → Outside (toldBetween (seenOf x)) (between x v c p)
+  unfolding countAnswer
+  outside shut = record { on = λ e. absurd (omega arith); end = λ e. absurd (omega arith); over = λ e i. ap (λ (n : ℕ). go n (counted 3 t)) (add-one p); few = λ e. omega arith }
+  outside (more l b) = record { on = λ e. absurd (omega arith); end = λ e. absurd (omega arith); over = λ e i. ap (λ (n : ℕ). go n (counted 4 t)) (add-one p); few = λ e. omega arith }
+  outside (head (first true b)) = record { on = λ e. absurd (omega arith); end = λ e. absurd (omega arith); over = λ e i. ap (λ (n : ℕ). go n (counted 0 t)) (add-one p); few = λ e. omega arith }
+  outside (head (first false b)) =
       let k : min c (p + 64) - (p + 1) ≡ min (c - suc p) 63 = omega arith in
-      w d ∙ ap (λ (n : ℕ). after (gather n v (p + 1) d) t go) k ∙ ap (λ (n : ℕ). after (gather (min (c - suc p) 63) v n d) t go) (add-one p)
-  begun (head mark) w = w ∙ ap (λ (n : ℕ). go n (countedBy o.Mark t)) (add-one p)
-  begun (head eod) w = w
+      record { on = λ e n i r w. w b ∙ rw (i, k, add-one p); end = λ e. absurd (omega arith); over = λ e i. absurd (e refl); few = λ e. absurd (e refl) }
+  outside (head mark) = record { on = λ e. absurd (omega arith); end = λ e. absurd (omega arith); over = λ e i. ap (λ (n : ℕ). go n (counted 1 t)) (add-one p); few = λ e. omega arith }
+  outside (head eod) = record { on = λ e. absurd (omega arith); end = λ e. refl; over = λ e i. absurd (i refl); few = λ e. omega arith }
 
-pub between-by : (f : ℕ) (v : View) (c p : ℕ) (t r : Tally) → p < c → c - p ≤ f → (s x : Seen) → s ≡ seenOf (v p) → s ≡ x
-    → Begun v c p t (countOn (f - 1) v c) r x → r ≡ countOn f v c p t
-unfolding readAt
-between-by f v c p t r h k s x e d w =
-    let y : x ≡ seenOf (v p) = sym d ∙ e in
-    begun v c p t (countOn (f - 1) v c) r (v p) (rw (sym y) w) ∙ count-step f v c p t h k
+  pub outside-at : {told : ℕ} → told ≡ toldBetween (seenOf (v p)) → Outside told (readAt v c p)
+  unfolding readAt
+  outside-at e = rw e (outside (v p))
+
+-- ---- the step at block q, by whether there is room for it
+pub step-none : (end : ℕ) (v : View) (q : ℕ) → end ≤ q → stepTo 5 q ≡ stepBy (end - q) v q
+unfolding stepBy
+step-none end v q h = let k : end - q ≡ 0 = omega arith in rw k
+
+pub step-seen : (end : ℕ) (v : View) (q : ℕ) → q < end → {s : Seen} {t n : ℕ} → s ≡ seenOf (v q) → t ≡ toldInside s → n ≡ passedInside s
+    → stepTo t (q + n) ≡ stepBy (end - q) v q
+unfolding stepBy
+step-seen end v q h e x y = let k : end - q ≡ suc (end - (q + 1)) = omega arith in rw (k, x, y, e)
+
+-- ---- what is told of block q inside a record that ends before `end` at the latest
+module _ (v : View) (end q : ℕ) (t : List ℕ) (go : ℕ → List ℕ → List ℕ) where
+  pub record Within (s : Step) : Type 0 where
+    pub on : s .told ≡ 255 → (r : List ℕ) → ((b : List ℕ) → r ≡ countAnswer (gather (end - s .next) v (s .next) b) t go)
+        → (b : List ℕ) → r ≡ countAnswer (gather (end - q) v q b) t go
+    pub over : (s .told ≡ 255 → ⊥) → (b : List ℕ) → go (s .next) (counted (s .told) t) ≡ countAnswer (gather (end - q) v q b) t go
+    pub few : (s .told ≡ 255 → ⊥) → s .told < 6
+    pub passes : s .told ≡ 255 → s .next ≡ q + 1
+    pub near : q ≤ s .next
+    pub stays : s .next ≤ q + (end - q)
+
+  within : (x : Content) (room : ℕ) → end - q ≡ suc room → v q ≡ x → Within (stepTo (toldInside (seenOf x)) (q + passedInside (seenOf x)))
+  unfolding gather countAnswer
+  within shut room k e = record { on = λ i. absurd (omega arith); over = λ i b. rw (k, e, add-one q); few = λ i. omega arith; passes = λ i. refl; near = omega arith; stays = omega arith }
+  within (more true d) room k e = record { on = λ i. absurd (omega arith); over = λ i b. rw (k, e, add-one q); few = λ i. omega arith; passes = λ i. refl; near = omega arith; stays = omega arith }
+  within (more false d) room k e =
+      let n : end - (q + 1) ≡ room = omega arith in
+      record { on = λ i r w b. w (b ++ d) ∙ rw (k, e, n, add-one q); over = λ i b. absurd (i refl); few = λ i. absurd (i refl); passes = λ i. refl; near = omega arith; stays = omega arith }
+  within (head (first l d)) room k e = record { on = λ i. absurd (omega arith); over = λ i b. rw (k, e, add-zero q); few = λ i. omega arith; passes = λ i. absurd (omega arith); near = omega arith; stays = omega arith }
+  within (head mark) room k e = record { on = λ i. absurd (omega arith); over = λ i b. rw (k, e, add-zero q); few = λ i. omega arith; passes = λ i. absurd (omega arith); near = omega arith; stays = omega arith }
+  within (head eod) room k e = record { on = λ i. absurd (omega arith); over = λ i b. rw (k, e, add-zero q); few = λ i. omega arith; passes = λ i. absurd (omega arith); near = omega arith; stays = omega arith }
+
+  -- by the blocks that may still belong to the record
+  within-room : (room : ℕ) → end - q ≡ room → Within (stepBy room v q)
+  unfolding stepBy gather countAnswer
+  within-room zero k = record { on = λ i. absurd (omega arith); over = λ i b. rw k; few = λ i. omega arith; passes = λ i. absurd (omega arith); near = omega arith; stays = omega arith }
+  within-room (suc room) k = within (v q) room k refl
+
+  pub within-at : {s : Step} → s ≡ stepBy (end - q) v q → Within s
+  within-at e = rw e (within-room (end - q) refl)

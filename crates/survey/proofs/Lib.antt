@@ -1,5 +1,4 @@
 -- What is true of spacing and the report.
-pub mod SizeLaws
 pub mod SpaceLaws
 pub mod CountLaws
 pub mod SpaceWalk

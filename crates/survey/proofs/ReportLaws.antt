@@ -1,94 +1,31 @@
--- The report's counts are those of the walk: as many of each outcome as visits of the walk say it, and together no more than there are blocks.
+-- The report's counts are those of the walk: as many of each outcome as visits of the walk say it.
 -- Assumes nothing.
-use borrow.Author.Tests.{eq-eqb}
-use mathlib.Core.Path.{_≡_, refl, sym, ap, _∙_}
+use mathlib.Core.Path.{_≡_, sym, ap, _∙_}
 use mathlib.Core.List.{List, [], _∷_}
-use Prim.Native.Nat.{ℕ, _+_, _≤_}
-use native.Mathlib.Nat.{zero-add}
+use Prim.Native.Nat.{ℕ, _+_, _<_}
 use native.Mathlib.Omega.{arith}
-use lib.ListN.{length}
+use lib.ListN.{length, getD, length-set, getD-replicate}
+use Rattle.laws.specs.Lists.{listed}
+use Rattle.laws.proofs.ListLaws.{listed-is}
 use Rattle.block.specs.Image.{view, capacityOf}
-use Rattle.survey.specs.declared.Tally.{Tally}
-use Rattle.reader.specs.Walk.{Told, Record, Mark, End, Bad, Stray, Cut, Visit, walk}
-use Rattle.survey.specs.Report.{none, counted, tallied, reportNumber, reportOf}
-use Rattle.survey.specs.Marks.{markAt, marksOf, howMany, ofRecord, ofMark, ofEnd, ofBad, ofStray, ofCut, Counts}
-use Rattle.reader.proofs.WalkLaws.{walk-length}
+use Rattle.reader.specs.Walk.{Visit, walk}
+use Rattle.survey.specs.Report.{placeOf, tallyOf, uncounted, counted, tallied, reportNumber, reportOf}
+use Rattle.survey.specs.Marks.{howMany}
+use Rattle.survey.proofs.CountLaws.{counted-at, tallied-length}
 
--- a number of the tally that each answer x adds g x to
-tallied-adds : (F : Tally → ℕ) (g : Told → ℕ) → ((x : Told) (t : Tally) → F (counted x t) ≡ g x + F t) → (w : List Visit) (t : Tally) → F (tallied w t) ≡ howMany g w + F t
+tallied-at : (w : List Visit) (t : List ℕ) (k : ℕ) → k < length t → getD (tallied w t) k 0 ≡ howMany k w + getD t k 0
 unfolding tallied howMany
-tallied-adds F g a [] t = sym (zero-add (F t))
-tallied-adds F g a (x ∷ w) t =
-    let i = tallied-adds F g a w (counted (x .says) t) in
-    let j = a (x .says) t in
-    omega arith
+tallied-at [] t k h = omega arith
+tallied-at (x ∷ w) t k h =
+    let j = placeOf (x .says) in
+    let n = length-set t j (getD t j 0 + 1) in
+    tallied-at w (counted j t) k (omega arith) ∙ omega (arith, counted-at t j k h)
 
--- ---- what an answer adds to each count, and to all of them together
-abbrev pub total : Tally → ℕ
-total t = t .records + t .marks + t .ends + t .bads + t .strays + t .cuts
-
-record Adds (x : Told) (t : Tally) : Type 0 where
-  records : counted x t .records ≡ ofRecord x + t .records
-  marks : counted x t .marks ≡ ofMark x + t .marks
-  ends : counted x t .ends ≡ ofEnd x + t .ends
-  bads : counted x t .bads ≡ ofBad x + t .bads
-  strays : counted x t .strays ≡ ofStray x + t .strays
-  cuts : counted x t .cuts ≡ ofCut x + t .cuts
-  all : total (counted x t) ≡ 1 + total t
-
-adds : (x : Told) (t : Tally) → Adds x t
-adds (Record b) t = record { records = omega arith; marks = omega arith; ends = omega arith; bads = omega arith; strays = omega arith; cuts = omega arith; all = omega arith }
-adds Mark t = record { records = omega arith; marks = omega arith; ends = omega arith; bads = omega arith; strays = omega arith; cuts = omega arith; all = omega arith }
-adds End t = record { records = omega arith; marks = omega arith; ends = omega arith; bads = omega arith; strays = omega arith; cuts = omega arith; all = omega arith }
-adds Bad t = record { records = omega arith; marks = omega arith; ends = omega arith; bads = omega arith; strays = omega arith; cuts = omega arith; all = omega arith }
-adds Stray t = record { records = omega arith; marks = omega arith; ends = omega arith; bads = omega arith; strays = omega arith; cuts = omega arith; all = omega arith }
-adds (Cut q) t = record { records = omega arith; marks = omega arith; ends = omega arith; bads = omega arith; strays = omega arith; cuts = omega arith; all = omega arith }
-
-pub tallied-counts : (w : List Visit) → Counts w (tallied w (none 0))
-tallied-counts w =
-    record {
-      records = tallied-adds (λ t. t .records) ofRecord (λ x t. adds x t .records) w (none 0) ∙ omega arith;
-      marks = tallied-adds (λ t. t .marks) ofMark (λ x t. adds x t .marks) w (none 0) ∙ omega arith;
-      ends = tallied-adds (λ t. t .ends) ofEnd (λ x t. adds x t .ends) w (none 0) ∙ omega arith;
-      bads = tallied-adds (λ t. t .bads) ofBad (λ x t. adds x t .bads) w (none 0) ∙ omega arith;
-      strays = tallied-adds (λ t. t .strays) ofStray (λ x t. adds x t .strays) w (none 0) ∙ omega arith;
-      cuts = tallied-adds (λ t. t .cuts) ofCut (λ x t. adds x t .cuts) w (none 0) ∙ omega arith;
-    }
-
--- ---- the marks counted are the marks that spacing finds
-marks-step : (x : Told) (p : ℕ) (r : List ℕ) → ofMark x + length r ≡ length (markAt x p r)
-marks-step (Record b) p r = omega arith
-marks-step Mark p r = omega arith
-marks-step End p r = omega arith
-marks-step Bad p r = omega arith
-marks-step Stray p r = omega arith
-marks-step (Cut q) p r = omega arith
-
-pub marks-many : (w : List Visit) → howMany ofMark w ≡ length (marksOf w)
-unfolding howMany marksOf
-marks-many [] = refl
-marks-many (x ∷ w) = ap (λ (n : ℕ). ofMark (x .says) + n) (marks-many w) ∙ marks-step (x .says) (x .at) (marksOf w)
-
--- ---- all counts together
-all-many : (w : List Visit) → howMany (λ x. 1) w ≡ length w
-unfolding howMany
-all-many [] = refl
-all-many (x ∷ w) = let i = all-many w in omega arith
-
--- ---- the call, where nothing is refused
-module _ (key : List ℕ) (id recording : ℕ) (image : List ℕ) (e : reportNumber key image ≡ 0) where
-  report-is : reportOf key id recording image ≡ tallied (walk (view key id recording image) (capacityOf image)) (none 0)
-  unfolding reportOf
-  report-is = rw (eq-eqb _ _ e)
-
-  pub report-counts : Counts (walk (view key id recording image) (capacityOf image)) (reportOf key id recording image)
-  report-counts = rw report-is (tallied-counts (walk (view key id recording image) (capacityOf image)))
-
-  pub report-total : total (reportOf key id recording image) ≡ length (walk (view key id recording image) (capacityOf image))
-  report-total =
-      ap total report-is
-      ∙ tallied-adds total (λ x. 1) (λ x t. adds x t .all) (walk (view key id recording image) (capacityOf image)) (none 0)
-      ∙ omega (arith, all-many (walk (view key id recording image) (capacityOf image)))
-
-  pub report-most : total (reportOf key id recording image) ≤ capacityOf image
-  report-most = rw report-total (walk-length (view key id recording image) (capacityOf image))
+-- where nothing is refused
+pub report-counts : (key : List ℕ) (id recording : ℕ) (image : List ℕ) → reportNumber key image ≡ 0
+    → reportOf key id recording image ≡ tallyOf 0 (listed 0 6 (λ k. howMany k (walk (view key id recording image) (capacityOf image))))
+unfolding reportOf
+report-counts key id recording image e =
+    let w = walk (view key id recording image) (capacityOf image) in
+    rw e (ap (tallyOf 0) (sym (listed-is 6 (λ k. howMany k w) (tallied w uncounted) (tallied-length w uncounted)
+    (λ k h. sym (tallied-at w uncounted k h ∙ omega (arith, getD-replicate {A = ℕ} 6 k 0 0 h))))))

@@ -3,31 +3,22 @@ use mathlib.Core.List.{List}
 use Prim.Native.Nat.{ℕ, zero, suc, _+_, _-_}
 use lib.Dec.{eqb, ltb}
 use Rattle.laws.specs.Choose.{pick, firstOf}
-use Rattle.block.specs.Image.{View, capacityOf, imageOk, view}
-use Rattle.reader.specs.Walk.{Told, Record, Mark, End, Bad, Stray, Cut, readAt}
-use Rattle.reader.specs.Reading.{keyOk}
+use Rattle.block.specs.Image.{View, capacityOf, imageThenKey, view}
+use Rattle.reader.specs.Walk.{markOrEnd, readAt}
 use Rattle.survey.specs.declared.Spaced.{Spaced}
 use Rattle.survey.specs.declared.Spaced.the-variants as s
 
 -- ---- spacing over n marks, with m passed: f reads at most
-abbrev pub spaceOn : Told → Spaced → Spaced → Spaced → Spaced
-spaceOn (Record b) mark end on = on
-spaceOn Mark mark end on = mark
-spaceOn End mark end on = end
-spaceOn Bad mark end on = on
-spaceOn Stray mark end on = on
-spaceOn (Cut q) mark end on = on
-
 unfoldable pub spaceFrom : ℕ → View → ℕ → ℕ → ℕ → ℕ → Spaced
 spaceFrom zero v c p n m = pick (eqb n 0) (s.At p) (s.Short m p)
 spaceFrom (suc f) v c p n m =
     pick (eqb n 0) (s.At p)
     (pick (ltb p c)
-    (spaceOn (readAt v c p .told) (spaceFrom f v c (readAt v c p .next) (n - 1) (m + 1)) (s.Short m p) (spaceFrom f v c (readAt v c p .next) n m))
+    (markOrEnd (readAt v c p .told) (spaceFrom f v c (readAt v c p .next) (n - 1) (m + 1)) (s.Short m p) (spaceFrom f v c (readAt v c p .next) n m))
     (s.Short m p))
 
 unfoldable pub spaceNumber : List ℕ → List ℕ → ℕ → ℕ
-spaceNumber key image p = firstOf (imageOk image) 1 (firstOf (keyOk key) 2 (firstOf (ltb p (capacityOf image)) 8 0))
+spaceNumber key image p = imageThenKey key image (firstOf (ltb p (capacityOf image)) 8 0)
 
 unfoldable pub spacing : List ℕ → ℕ → ℕ → List ℕ → ℕ → ℕ → Spaced
 spacing key id recording image p n =

@@ -5,14 +5,15 @@ ghost use Prim.Native.Nat.{ℕ, _+_, _-_, _*_, _≤_, _<_, min};
 ghost use lib.ListN.{length};
 ghost use Rattle.block.specs.Calls.{seenOf};
 ghost use Rattle.block.specs.Image.{view};
-ghost use Rattle.reader.specs.Reading.{gotOf};
-ghost use Rattle.reader.specs.Walk.{readAt, gather};
-ghost use Rattle.survey.specs.Report.{reportOf};
+ghost use Rattle.reader.specs.Walk.{gather};
+ghost use Rattle.survey.specs.Report.{counted, tallyOf, reportOf};
 ghost use Rattle.survey.specs.Spacing.{spaceFrom, spacing};
-ghost use Rattle.survey.specs.Steps.{cutAt, restBy, turn, countedBy, Few, countOn, after};
-use reader::Got;
-use reader::LONGEST;
-use reader::Outcome;
+ghost use Rattle.survey.specs.Steps.{Lent, toldBetween, toldInside, passedInside, stepBy, Few, countOn, countAnswer};
+use numbers::BLOCK_BYTES;
+use numbers::BLOCK_PAYLOAD;
+use numbers::DONE;
+use numbers::RECORD_BLOCKS;
+use numbers::UNLAWFUL;
 
 pub enum Spaced {
     At(usize),
@@ -30,120 +31,51 @@ pub struct Tally {
     pub cuts: usize,
 }
 
-// What opens at block q.
-fn seen_at(key: &[u8], id: u32, recording: u64, image: &[u8], q: usize) -> block::Seen
-    requires { ⌜ (length (now key) ≡ 24) × ((q * 512 + 512 ≤ length (now image)) × (q < 128)) ⌝ }
-    ensures { λ r. ⌜ r ≡ seenOf (view (now (key .entry)) id recording (now (image .entry)) q) ⌝ }
-{
-    let start = 512 * q;
-    let mut scratch = [0u8; 488];
-    block::open_block(key, id, recording, q as u32, &image[start..], &mut scratch)
-}
-
-// A record cut at q.
-fn cut(q: usize, next: usize) -> Got
-    ensures { λ r. ⌜ r ≡ cutAt q next ⌝ }
-{
-    Got {
-        outcome: Outcome::Cut(q),
-        next: next,
-    }
-}
-
-// Where a record that begins at p ends at the latest: behind its 64th block, or at the end of the c blocks.
-fn record_end(p: usize, c: usize) -> usize
-    ensures { λ r. ⌜ r ≡ min c (p + 64) ⌝ }
-{
-    if c < LONGEST {
-        return c;
-    }
-    if c - LONGEST < p { c } else { p + LONGEST }
-}
-
-// The rest of a read: the record that begins at p goes on behind its first block, which has `used` bytes.
-fn answer_rest(
+// What opens at block q, by way of the 488 bytes of `scratch`.
+fn seen_at(
     key: &[u8],
     id: u32,
     recording: u64,
     image: &[u8],
-    p: usize,
-    c: usize,
-    used: usize,
-) -> Got
-    requires { ⌜ (length (now key) ≡ 24) × ((p < c) × ((c * 512 ≤ length (now image)) × ((c ≤ 128) × (used ≤ 488)))) ⌝ }
-    ensures { λ r. ⌜ r ≡ restBy (min (c - (p + 1)) 63) (view (now (key .entry)) id recording (now (image .entry))) (p + 1) used ⌝ }
+    scratch: &mut [u8; BLOCK_PAYLOAD],
+    q: usize,
+) -> block::Seen
+    requires { ⌜ Lent (now key) (now image) (now scratch) (q + 1) ⌝ }
+    ensures keeps { λ _. ⌜ length (now (scratch .exit)) ≡ 488 ⌝ }
+    ensures says { λ r. ⌜ r ≡ seenOf (view (now (key .entry)) id recording (now (image .entry)) q) ⌝ }
 {
-    let end = record_end(p, c);
-    let mut held = used;
-    let mut q = p + 1;
-    while q < end {
-        match seen_at(key, id, recording, image, q) {
-            block::Seen::Shut => return cut(q, q + 1),
-            block::Seen::More(last, n) => {
-                if last {
-                    return Got {
-                        outcome: Outcome::Record(held + n),
-                        next: q + 1,
-                    };
-                }
-                held += n;
-            }
-            block::Seen::First(_, _) => return cut(q, q),
-            block::Seen::Mark => return cut(q, q),
-            block::Seen::End => return cut(q, q),
-        }
-        q += 1;
-    }
-    cut(q, q)
+    let start = BLOCK_BYTES * q;
+    block::open_block(key, id, recording, q as u32, &image[start..], scratch)
 }
 
-// A read at p with no receiving buffer.
-fn answer_at(key: &[u8], id: u32, recording: u64, image: &[u8], p: usize, c: usize) -> Got
-    requires { ⌜ (length (now key) ≡ 24) × ((p < c) × ((c * 512 ≤ length (now image)) × (c ≤ 128))) ⌝ }
-    ensures { λ r. ⌜ r ≡ gotOf (readAt (view (now (key .entry)) id recording (now (image .entry))) c p) ⌝ }
-{
-    match seen_at(key, id, recording, image, p) {
-        block::Seen::Shut => Got {
-            outcome: Outcome::Bad,
-            next: p + 1,
-        },
-        block::Seen::First(last, used) => {
-            if last {
-                Got {
-                    outcome: Outcome::Record(used),
-                    next: p + 1,
-                }
-            } else {
-                answer_rest(key, id, recording, image, p, c, used)
-            }
-        }
-        block::Seen::More(_, _) => Got {
-            outcome: Outcome::Stray,
-            next: p + 1,
-        },
-        block::Seen::Mark => Got {
-            outcome: Outcome::Mark,
-            next: p + 1,
-        },
-        block::Seen::End => Got {
-            outcome: Outcome::End,
-            next: p,
-        },
-    }
-}
+// What is told of a block, by number: the place of its count in the report. ON where nothing is told yet, since the
+// record goes on.
+const RECORD: u8 = 0;
 
-// 1 for Mark, 2 for End, 0 for the others.
-fn turn_of(o: Outcome) -> u8
-    ensures { λ r. ⌜ r ≡ turn o ⌝ }
+const MARK: u8 = 1;
+
+const END: u8 = 2;
+
+const BAD: u8 = 3;
+
+const STRAY: u8 = 4;
+
+const CUT: u8 = 5;
+
+const OUTCOMES: usize = 6;
+
+const ON: u8 = 255;
+
+// Of a block between records.
+fn told_between(seen: block::Seen) -> u8
+    ensures { λ r. ⌜ r ≡ toldBetween seen ⌝ }
 {
-    match o {
-        Outcome::Record(_) => 0,
-        Outcome::Mark => 1,
-        Outcome::End => 2,
-        Outcome::Bad => 0,
-        Outcome::Stray => 0,
-        Outcome::Cut(_) => 0,
-        Outcome::Refused(_) => 0,
+    match seen {
+        block::Seen::Shut => BAD,
+        block::Seen::First(last, _) => { if last { RECORD } else { ON } }
+        block::Seen::More(_, _) => STRAY,
+        block::Seen::Mark => MARK,
+        block::Seen::End => END,
     }
 }
 
@@ -153,13 +85,15 @@ fn space_on(
     id: u32,
     recording: u64,
     image: &[u8],
+    scratch: &mut [u8; BLOCK_PAYLOAD],
     c: usize,
     p: usize,
     n: usize,
     m: usize,
 ) -> Spaced
-    requires { ⌜ (length (now key) ≡ 24) × ((p ≤ c) × ((c * 512 ≤ length (now image)) × ((c ≤ 128) × (m ≤ p)))) ⌝ }
-    ensures { λ r. ⌜ ((f : ℕ) → c - p ≤ f → r ≡ spaceFrom f (view (now (key .entry)) id recording (now (image .entry))) c p n m) ⌝ }
+    requires { ⌜ Lent (now key) (now image) (now scratch) c × (p ≤ c) × (m ≤ p) ⌝ }
+    ensures { λ r. ⌜ ((f : ℕ) → c - p ≤ f
+        → r ≡ spaceFrom f (view (now (key .entry)) id recording (now (image .entry))) c p n m) ⌝ }
 {
     if n == 0 {
         return Spaced::At(p);
@@ -167,18 +101,14 @@ fn space_on(
     if c <= p {
         return Spaced::Short(m, p);
     }
-    let g = answer_at(key, id, recording, image, p, c);
-    let o = g.outcome;
-    let next = g.next;
-    let t = turn_of(o);
-    if t == 2 {
+    let told = told_between(seen_at(key, id, recording, image, scratch, p));
+    if told == END {
         return Spaced::Short(m, p);
     }
-    if t == 1 {
-        space_on(key, id, recording, image, c, next, n - 1, m + 1)
-    } else {
-        space_on(key, id, recording, image, c, next, n, m)
+    if told == MARK {
+        return space_on(key, id, recording, image, scratch, c, p + 1, n - 1, m + 1);
     }
+    space_on(key, id, recording, image, scratch, c, p + 1, n, m)
 }
 
 // Spacing over n marks from p on: the place after the nth, or how many there were and the place of End (or the capacity).
@@ -186,119 +116,171 @@ fn space_on(
 pub fn space(key: &[u8], id: u32, recording: u64, image: &[u8], p: usize, n: usize) -> Spaced
     ensures { λ r. ⌜ r ≡ spacing (now (key .entry)) id recording (now (image .entry)) p n ⌝ }
 {
-    if !block::is_image(image.len()) {
-        return Spaced::Refused(1, p);
+    let number = block::image_then_key(key, image);
+    if number != DONE {
+        return Spaced::Refused(number, p);
     }
-    if key.len() != 24 {
-        return Spaced::Refused(2, p);
-    }
-    let c = image.len() / 512;
+    let c = image.len() / BLOCK_BYTES;
     if c <= p {
-        return Spaced::Refused(8, p);
+        return Spaced::Refused(UNLAWFUL, p);
     }
-    space_on(key, id, recording, image, c, p, n, 0)
+    let mut scratch = [0u8; BLOCK_PAYLOAD];
+    space_on(key, id, recording, image, &mut scratch, c, p, n, 0)
 }
 
-// The counts with one answer more.
-fn add_one(t: Tally, o: Outcome) -> Tally
-    requires { ⌜ Few t 256 ⌝ }
-    ensures { λ r. ⌜ r ≡ countedBy o t ⌝ }
+// One more of the counts.
+fn add_one(counts: &mut [usize; OUTCOMES], told: u8)
+    requires { ⌜ (length (now counts) ≡ 6) × (told < 6) × Few (now counts) 256 ⌝ }
+    ensures { λ _. ⌜ now (counts .exit) ≡ counted told (now (counts .entry)) ⌝ }
 {
-    let mut u = t;
-    match o {
-        Outcome::Record(_) => {
-            u.records = t.records + 1;
-            u
-        }
-        Outcome::Mark => {
-            u.marks = t.marks + 1;
-            u
-        }
-        Outcome::End => {
-            u.ends = t.ends + 1;
-            u
-        }
-        Outcome::Bad => {
-            u.bads = t.bads + 1;
-            u
-        }
-        Outcome::Stray => {
-            u.strays = t.strays + 1;
-            u
-        }
-        Outcome::Cut(_) => {
-            u.cuts = t.cuts + 1;
-            u
-        }
-        Outcome::Refused(_) => u,
+    let i = told as usize;
+    counts[i] = counts[i] + 1;
+}
+
+// Where a record that begins at p ends at the latest: behind its 64th block, or at the end of the c blocks.
+fn record_end(p: usize, c: usize) -> usize
+    ensures { λ r. ⌜ r ≡ min c (p + 64) ⌝ }
+{
+    if c < RECORD_BLOCKS {
+        return c;
+    }
+    if c - RECORD_BLOCKS < p {
+        c
+    } else {
+        p + RECORD_BLOCKS
+    }
+}
+
+// Of a block inside a record; and how many blocks on the walk goes on, 1 or 0.
+fn told_inside(seen: block::Seen) -> u8
+    ensures { λ r. ⌜ r ≡ toldInside seen ⌝ }
+{
+    match seen {
+        block::Seen::Shut => CUT,
+        block::Seen::First(_, _) => CUT,
+        block::Seen::More(last, _) => { if last { RECORD } else { ON } }
+        block::Seen::Mark => CUT,
+        block::Seen::End => CUT,
+    }
+}
+
+fn passed_inside(seen: block::Seen) -> usize
+    ensures says { λ r. ⌜ r ≡ passedInside seen ⌝ }
+    ensures most { λ r. ⌜ r ≤ 1 ⌝ }
+{
+    match seen {
+        block::Seen::Shut => 1,
+        block::Seen::First(_, _) => 0,
+        block::Seen::More(_, _) => 1,
+        block::Seen::Mark => 0,
+        block::Seen::End => 0,
+    }
+}
+
+struct Step {
+    told: u8,
+    next: usize,
+}
+
+// Block q inside a record that ends before `end` at the latest.
+fn step_at(
+    key: &[u8],
+    id: u32,
+    recording: u64,
+    image: &[u8],
+    scratch: &mut [u8; BLOCK_PAYLOAD],
+    end: usize,
+    q: usize,
+) -> Step
+    requires { ⌜ Lent (now key) (now image) (now scratch) end ⌝ }
+    ensures keeps { λ _. ⌜ length (now (scratch .exit)) ≡ 488 ⌝ }
+    ensures says { λ r. ⌜ r ≡ stepBy (end - q) (view (now (key .entry)) id recording (now (image .entry))) q ⌝ }
+{
+    if end <= q {
+        return Step { told: CUT, next: q };
+    }
+    let seen = seen_at(key, id, recording, image, scratch, q);
+    Step {
+        told: told_inside(seen),
+        next: q + passed_inside(seen),
     }
 }
 
 // The report between records: block p is the next.
-fn between(key: &[u8], id: u32, recording: u64, image: &[u8], c: usize, p: usize, t: Tally) -> Tally
-    requires { ⌜ (length (now key) ≡ 24) × ((p ≤ c) × ((c * 512 ≤ length (now image)) × ((c ≤ 128) × Few t p))) ⌝ }
-    ensures { λ r. ⌜ ((f : ℕ) → c - p ≤ f → r ≡ countOn f (view (now (key .entry)) id recording (now (image .entry))) c p t) ⌝ }
+fn between(
+    key: &[u8],
+    id: u32,
+    recording: u64,
+    image: &[u8],
+    scratch: &mut [u8; BLOCK_PAYLOAD],
+    counts: &mut [usize; OUTCOMES],
+    c: usize,
+    p: usize,
+)
+    requires { ⌜ Lent (now key) (now image) (now scratch) c × (p ≤ c)
+        × (length (now counts) ≡ 6) × Few (now counts) p ⌝ }
+    ensures { λ _. ⌜ ((f : ℕ) → c - p ≤ f
+        → now (counts .exit)
+        ≡ countOn f (view (now (key .entry)) id recording (now (image .entry))) c p (now (counts .entry))) ⌝ }
 {
     if c <= p {
-        return t;
+        return;
     }
-    match seen_at(key, id, recording, image, p) {
-        block::Seen::Shut => {
-            let u = add_one(t, Outcome::Bad);
-            between(key, id, recording, image, c, p + 1, u)
-        }
-        block::Seen::First(last, used) => {
-            if last {
-                let u = add_one(t, Outcome::Record(used));
-                between(key, id, recording, image, c, p + 1, u)
-            } else {
-                inside(key, id, recording, image, c, p, p + 1, t)
-            }
-        }
-        block::Seen::More(_, _) => {
-            let u = add_one(t, Outcome::Stray);
-            between(key, id, recording, image, c, p + 1, u)
-        }
-        block::Seen::Mark => {
-            let u = add_one(t, Outcome::Mark);
-            between(key, id, recording, image, c, p + 1, u)
-        }
-        block::Seen::End => add_one(t, Outcome::End),
+    let told = told_between(seen_at(key, id, recording, image, scratch, p));
+    if told == ON {
+        let end = record_end(p, c);
+        inside(key, id, recording, image, scratch, counts, c, end, p + 1);
+        return;
     }
+    add_one(counts, told);
+    if told == END {
+        return;
+    }
+    between(key, id, recording, image, scratch, counts, c, p + 1);
 }
 
-// The report inside the record that began at p: block q is the next. `u` counts a Cut at q; how long a record is does not count.
+// The report inside a record that ends before `end` at the latest: block q is the next.
 fn inside(
     key: &[u8],
     id: u32,
     recording: u64,
     image: &[u8],
+    scratch: &mut [u8; BLOCK_PAYLOAD],
+    counts: &mut [usize; OUTCOMES],
     c: usize,
-    p: usize,
+    end: usize,
     q: usize,
-    t: Tally,
-) -> Tally
-    requires { ⌜ (length (now key) ≡ 24) × ((p < q) × ((q ≤ min c (p + 64)) × ((c * 512 ≤ length (now image)) × ((c ≤ 128) × Few t p)))) ⌝ }
-    ensures { λ r. ⌜ ((f : ℕ) (b : List ℕ) → c - q ≤ f → r ≡ after (gather (min c (p + 64) - q) (view (now (key .entry)) id recording (now (image .entry))) q b) t (countOn f (view (now (key .entry)) id recording (now (image .entry))) c)) ⌝ }
+)
+    requires { ⌜ Lent (now key) (now image) (now scratch) c × (0 < q) × (q ≤ end) × (end ≤ c)
+        × (length (now counts) ≡ 6) × Few (now counts) (q - 1) ⌝ }
+    ensures { λ _. ⌜ ((f : ℕ) (b : List ℕ) → c - q ≤ f
+        → now (counts .exit)
+        ≡ countAnswer (gather (end - q) (view (now (key .entry)) id recording (now (image .entry))) q b)
+        (now (counts .entry)) (countOn f (view (now (key .entry)) id recording (now (image .entry))) c)) ⌝ }
 {
-    let u = add_one(t, Outcome::Cut(q));
-    let end = record_end(p, c);
-    if end <= q {
-        return between(key, id, recording, image, c, q, u);
+    let s = step_at(key, id, recording, image, scratch, end, q);
+    let told = s.told;
+    let next = s.next;
+    if told == ON {
+        inside(key, id, recording, image, scratch, counts, c, end, next);
+        return;
     }
-    match seen_at(key, id, recording, image, q) {
-        block::Seen::Shut => between(key, id, recording, image, c, q + 1, u),
-        block::Seen::More(last, used) => {
-            if last {
-                let w = add_one(t, Outcome::Record(used));
-                between(key, id, recording, image, c, q + 1, w)
-            } else {
-                inside(key, id, recording, image, c, p, q + 1, t)
-            }
-        }
-        block::Seen::First(_, _) => between(key, id, recording, image, c, q, u),
-        block::Seen::Mark => between(key, id, recording, image, c, q, u),
-        block::Seen::End => between(key, id, recording, image, c, q, u),
+    add_one(counts, told);
+    between(key, id, recording, image, scratch, counts, c, next);
+}
+
+fn tally_of(number: u8, counts: &[usize; OUTCOMES]) -> Tally
+    requires { ⌜ length (now counts) ≡ 6 ⌝ }
+    ensures { λ r. ⌜ r ≡ tallyOf number (now (counts .entry)) ⌝ }
+{
+    Tally {
+        number: number,
+        records: counts[0],
+        marks: counts[1],
+        ends: counts[2],
+        bads: counts[3],
+        strays: counts[4],
+        cuts: counts[5],
     }
 }
 
@@ -306,36 +288,21 @@ fn inside(
 pub fn report(key: &[u8], id: u32, recording: u64, image: &[u8]) -> Tally
     ensures { λ r. ⌜ r ≡ reportOf (now (key .entry)) id recording (now (image .entry)) ⌝ }
 {
-    if !block::is_image(image.len()) {
-        return Tally {
-            number: 1,
-            records: 0,
-            marks: 0,
-            ends: 0,
-            bads: 0,
-            strays: 0,
-            cuts: 0,
-        };
+    let mut counts = [0usize; OUTCOMES];
+    let number = block::image_then_key(key, image);
+    if number != DONE {
+        return tally_of(number, &counts);
     }
-    if key.len() != 24 {
-        return Tally {
-            number: 2,
-            records: 0,
-            marks: 0,
-            ends: 0,
-            bads: 0,
-            strays: 0,
-            cuts: 0,
-        };
-    }
-    let none = Tally {
-        number: 0,
-        records: 0,
-        marks: 0,
-        ends: 0,
-        bads: 0,
-        strays: 0,
-        cuts: 0,
-    };
-    between(key, id, recording, image, image.len() / 512, 0, none)
+    let mut scratch = [0u8; BLOCK_PAYLOAD];
+    between(
+        key,
+        id,
+        recording,
+        image,
+        &mut scratch,
+        &mut counts,
+        image.len() / BLOCK_BYTES,
+        0,
+    );
+    tally_of(DONE, &counts)
 }

@@ -18,8 +18,7 @@ returns c =
 read-lent-requires : tie.Need-read-lent-requires
 read-lent-requires c κs =
     let a = c .before .before .before .before .before .before .args in
-    let k = readable (a .key .now) (a .image .now) (a .p) (length (a .buffer .now)) (sym (c .before .before .read-number .ensures) ∙ c .before .if1 .left) in
-    (k .key24, k .inside, k .most, k .enough)
+    readable (a .key .now) (a .image .now) (a .p) (length (a .buffer .now)) (sym (c .before .before .read-number .ensures) ∙ c .before .if1 .left)
 
 same-length : tie.Need-same-length
 same-length c = search needs

@@ -31,20 +31,20 @@ begun c =
 enum-told : tie.Need-enum-told
 enum-told c = search needs
 
-add-answer : tie.Need-add-answer
-add-answer c = omega arith
+add-answer-with : tie.Need-add-answer-with
+add-answer-with c = omega arith
 
-answer-requires : tie.Need-answer-requires
-answer-requires c κs = search needs
+answer-with-requires : tie.Need-answer-with-requires
+answer-with-requires c κs = search needs
 
 enum-known-last : tie.Need-enum-known-last
 enum-known-last c = search needs
 
-add-answer-2 : tie.Need-add-answer-2
-add-answer-2 c = omega arith
+add-answer-with-2 : tie.Need-add-answer-with-2
+add-answer-with-2 c = omega arith
 
-answer-requires-2 : tie.Need-answer-requires-2
-answer-requires-2 c κs = search needs
+answer-with-requires-2 : tie.Need-answer-with-requires-2
+answer-with-requires-2 c κs = search needs
 
 read-rest-requires : tie.Need-read-rest-requires
 read-rest-requires c κs = search needs
@@ -52,26 +52,26 @@ read-rest-requires c κs = search needs
 enum-told-2 : tie.Need-enum-told-2
 enum-told-2 c = search needs
 
-add-answer-3 : tie.Need-add-answer-3
-add-answer-3 c = omega arith
+add-answer-with-3 : tie.Need-add-answer-with-3
+add-answer-with-3 c = omega arith
 
-answer-requires-3 : tie.Need-answer-requires-3
-answer-requires-3 c κs = search needs
+answer-with-requires-3 : tie.Need-answer-with-requires-3
+answer-with-requires-3 c κs = search needs
 
 enum-told-3 : tie.Need-enum-told-3
 enum-told-3 c = search needs
 
-add-answer-4 : tie.Need-add-answer-4
-add-answer-4 c = omega arith
+add-answer-with-4 : tie.Need-add-answer-with-4
+add-answer-with-4 c = omega arith
 
-answer-requires-4 : tie.Need-answer-requires-4
-answer-requires-4 c κs = search needs
+answer-with-requires-4 : tie.Need-answer-with-requires-4
+answer-with-requires-4 c κs = search needs
 
 enum-told-4 : tie.Need-enum-told-4
 enum-told-4 c = search needs
 
-answer-requires-5 : tie.Need-answer-requires-5
-answer-requires-5 c κs = search needs
+answer-with-requires-5 : tie.Need-answer-with-requires-5
+answer-with-requires-5 c κs = search needs
 
 same-length : tie.Need-same-length
 same-length c = search needs
@@ -79,7 +79,7 @@ same-length c = search needs
 returns : tie.Need-returns
 unfolding readAnswer
 returns c =
-    let n = c .before .before .answer in
+    let n = c .before .before .answer-with in
     begun-shut (capacityOf (c .before .before .before .before .before .before .before .before .before .before .before .before .before .args .image .now)) (begun (c .before .before .before .before .before .before .before .before)) (n .ensures .1) (c .before .before .before .before .enum-told .given .1) (n .ensures .0 .0) (n .ensures .0 .1)
 
 same-length-2 : tie.Need-same-length-2
@@ -88,7 +88,7 @@ same-length-2 c = search needs
 returns-2 : tie.Need-returns-2
 unfolding readAnswer
 returns-2 c =
-    let n = c .before .before .answer2 in
+    let n = c .before .before .answer-with2 in
     let d = c .before .before .before .before .before .before in
     begun-last (capacityOf (c .before .before .before .before .before .before .before .before .before .before .before .before .before .before .before .args .image .now)) (begun (c .before .before .before .before .before .before .before .before .before .before)) (d .last .given .1 ∙ ap (λ (x : Bool). seen.First x (d .last .given .0 .1 .0)) (c .before .before .before .before .if1 .taken)) (n .ensures .0 .0) (n .ensures .0 .1) (n .ensures .1)
 
@@ -108,7 +108,7 @@ same-length-4 c = search needs
 returns-4 : tie.Need-returns-4
 unfolding readAnswer
 returns-4 c =
-    let n = c .before .before .answer3 in
+    let n = c .before .before .answer-with3 in
     begun-more (capacityOf (c .before .before .before .before .before .before .before .before .before .before .before .before .before .args .image .now)) (begun (c .before .before .before .before .before .before .before .before)) (n .ensures .1) (c .before .before .before .before .enum-told2 .given .1) (n .ensures .0 .0) (n .ensures .0 .1)
 
 same-length-5 : tie.Need-same-length-5
@@ -117,7 +117,7 @@ same-length-5 c = search needs
 returns-5 : tie.Need-returns-5
 unfolding readAnswer
 returns-5 c =
-    let n = c .before .before .answer4 in
+    let n = c .before .before .answer-with4 in
     begun-mark (capacityOf (c .before .before .before .before .before .before .before .before .before .before .before .before .before .args .image .now)) (begun (c .before .before .before .before .before .before .before .before)) (n .ensures .1) (c .before .before .before .before .enum-told3 .given .1) (n .ensures .0 .0) (n .ensures .0 .1)
 
 same-length-6 : tie.Need-same-length-6
@@ -126,7 +126,7 @@ same-length-6 c = search needs
 returns-6 : tie.Need-returns-6
 unfolding readAnswer
 returns-6 c =
-    let n = c .before .before .answer5 in
+    let n = c .before .before .answer-with5 in
     begun-end (capacityOf (c .before .before .before .before .before .before .before .before .before .before .before .before .before .args .image .now)) (begun (c .before .before .before .before .before .before .before .before)) (n .ensures .1) (c .before .before .before .before .enum-told4 .given .1) (n .ensures .0 .0) (n .ensures .0 .1)
 
 pub read-lent-spec : {M : Type 1} → statement M
@@ -135,20 +135,20 @@ read-lent-spec =
     (tie.spec
     open-at-requires
     enum-told
-    add-answer
-    answer-requires
+    add-answer-with
+    answer-with-requires
     enum-known-last
-    add-answer-2
-    answer-requires-2
+    add-answer-with-2
+    answer-with-requires-2
     read-rest-requires
     enum-told-2
-    add-answer-3
-    answer-requires-3
+    add-answer-with-3
+    answer-with-requires-3
     enum-told-3
-    add-answer-4
-    answer-requires-4
+    add-answer-with-4
+    answer-with-requires-4
     enum-told-4
-    answer-requires-5
+    answer-with-requires-5
     same-length
     returns
     same-length-2

@@ -1,40 +1,45 @@
--- `reader::read_number` meets its contract: its tests, one after the other.
+-- `reader::read_number` meets its contract: image and key, then its own tests, one after the other.
 -- Assumes nothing.
 use borrow.Author.Needs.{needs}
-use borrow.Author.Tests.{eq-eqb, ne-eqb, le-leb, lt-leb, lt-ltb, le-ltb}
+use borrow.Author.Tests.{le-leb, lt-leb, lt-ltb, le-ltb}
+use mathlib.Core.Path.{sym, _∙_}
 use native.Mathlib.Omega.{arith}
-use Rattle.laws.proofs.ChooseLaws.{passed, failed}
-use Rattle.block.specs.Image.{imageOk, capacityOf}
-use Rattle.reader.specs.Reading.{keyOk, readNumber}
+use Rattle.block.specs.Image.{capacityOf}
+use Rattle.block.proofs.ImageSize.{Asked, asks-refused, asks-rest, asked}
+use Rattle.reader.specs.Reading.{readNumber}
 use Rattle.reader.proofs.read_number.Statement.{statement}
 use Rattle.reader.proofs.read_number.Tie as tie
 
-is-image-requires : tie.Need-is-image-requires
-is-image-requires c κs = search needs
+image-then-key-requires : tie.Need-image-then-key-requires
+image-then-key-requires c κs = search needs
 
 returns : tie.Need-returns
-unfolding readNumber imageOk
-returns c = rw (failed (c .before .is-image .ensures) (c .if1 .taken))
+unfolding readNumber
+returns c =
+    let e = c .before .image-then-key .ensures in
+    e ∙ sym (asks-refused _ _ _ (λ z. c .if1 .taken (e ∙ z)))
+
+-- nothing is wrong with image and key
+fit : (c : tie.Else1) → Asked (c .before .before .before .before .args .key .now) (c .before .before .before .before .args .image .now)
+fit c = asked _ _ 0 (sym (c .before .image-then-key .ensures) ∙ c .if1 .left) .0
 
 returns-2 : tie.Need-returns-2
-unfolding readNumber imageOk keyOk
-returns-2 c = rw (passed (c .before .before .is-image .ensures) (c .before .if1 .left), ne-eqb _ _ (c .if2 .taken))
+unfolding readNumber
+returns-2 c =
+    let a = c .before .before .before .before .before .args in
+    sym (asks-rest _ _ (fit (c .before)) _ ∙ rw (lt-leb 31232 (a .room) (omega arith)))
 
 returns-3 : tie.Need-returns-3
-unfolding readNumber imageOk keyOk
-returns-3 c = rw (passed (c .before .before .before .is-image .ensures) (c .before .before .if1 .left), eq-eqb _ _ (c .before .if2 .left), lt-leb 31232 (c .before .before .before .before .before .before .args .room) (omega arith))
+unfolding readNumber capacityOf
+returns-3 c =
+    let a = c .before .before .before .before .before .before .args in
+    sym (asks-rest _ _ (fit (c .before .before)) _ ∙ rw (le-leb 31232 (a .room) (omega arith), le-ltb _ _ (c .if3 .taken)))
 
 returns-4 : tie.Need-returns-4
-unfolding readNumber imageOk keyOk capacityOf
+unfolding readNumber capacityOf
 returns-4 c =
-    let i = c .before .before .before .before in
-    rw (passed (i .is-image .ensures) (c .before .before .before .if1 .left), eq-eqb _ _ (c .before .before .if2 .left), le-leb 31232 (i .before .before .before .args .room) (omega arith), lt-ltb _ _ (c .if4 .taken))
-
-returns-5 : tie.Need-returns-5
-unfolding readNumber imageOk keyOk capacityOf
-returns-5 c =
-    let i = c .before .before .before .before in
-    rw (passed (i .is-image .ensures) (c .before .before .before .if1 .left), eq-eqb _ _ (c .before .before .if2 .left), le-leb 31232 (i .before .before .before .args .room) (omega arith), le-ltb _ _ (c .if4 .left))
+    let a = c .before .before .before .before .before .before .args in
+    sym (asks-rest _ _ (fit (c .before .before)) _ ∙ rw (le-leb 31232 (a .room) (omega arith), lt-ltb _ _ (c .if3 .left)))
 
 pub read-number-spec : {M : Type 1} → statement M
-read-number-spec = tie.close (tie.spec is-image-requires returns returns-2 returns-3 returns-4 returns-5)
+read-number-spec = tie.close (tie.spec image-then-key-requires returns returns-2 returns-3 returns-4)

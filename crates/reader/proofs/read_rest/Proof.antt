@@ -3,36 +3,29 @@
 use borrow.Author.Needs.{needs}
 use mathlib.Core.Path.{_≡_, refl, sym, ap, _∙_}
 use mathlib.Core.Bool.{Bool}
-use mathlib.Core.List.{List}
 use mathlib.Core.Logic.{⊎-elim}
 use Prim.Native.Nat.{ℕ, _+_, _-_, _*_, _/_, _≤_, min}
 use native.Mathlib.Omega.{arith}
 use lib.ListN.{length, take, drop}
 use Rattle.block.specs.declared.Seen.the-variants as seen
-use Rattle.block.specs.Image.{view, capacityOf}
-use Rattle.reader.specs.Walk.{Answer, Cut, gather}
+use Rattle.block.specs.Image.{view}
+use Rattle.reader.specs.Walk.{Cut, gather}
+use Rattle.reader.specs.Steps.{restAnswer}
 use Rattle.block.proofs.ViewLaws.{view-sized}
 use Rattle.reader.proofs.GatherLaws.{Turn, turn-shut, turn-first, turn-mark, turn-end, turn-last, turn-more, turn-used, turn-back, gather-end, nothing-kept, rest-room}
 use Rattle.reader.proofs.read_rest.Statement.{statement}
 use Rattle.reader.proofs.read_rest.Tie as tie
 
--- what is answered in the end
-abbrev whole : List ℕ → ℕ → ℕ → List ℕ → ℕ → List ℕ → Answer
-whole key id recording image p buffer = gather (min (capacityOf image - (p + 1)) 63) (view key id recording image) (p + 1) (take 488 buffer)
-
 abbrev Inv-loop : tie.InvT-loop
-Inv-loop key id recording image p buffer₀ c end q₀ buffer q =
+Inv-loop key id recording image p buffer₀ c most end q₀ buffer q =
     (p + 1 ≤ q) × (q ≤ end) × (end ≡ min (length image / 512) (p + 64)) × (length buffer ≡ length buffer₀) × (drop 31232 buffer ≡ drop 31232 buffer₀)
-    × (gather (end - q) (view key id recording image) q (take ((q - p) * 488) buffer) ≡ whole key id recording image p buffer₀)
+    × (gather (end - q) (view key id recording image) q (take ((q - p) * 488) buffer) ≡ restAnswer key id recording image p buffer₀)
 
 abbrev μ-loop : tie.MeasureT-loop
-μ-loop key id recording image p buffer₀ c end q₀ buffer q = end - q
+μ-loop key id recording image p buffer₀ c most end q₀ buffer q = end - q
 
-add-if1 : tie.Need-add-if1 Inv-loop μ-loop
-add-if1 c = omega arith
-
-add-end : tie.Need-add-end Inv-loop μ-loop
-add-end c = omega arith
+add-most : tie.Need-add-most Inv-loop μ-loop
+add-most c = omega arith
 
 add-q : tie.Need-add-q Inv-loop μ-loop
 add-q c = omega arith
@@ -53,14 +46,14 @@ add-after : tie.Need-add-after Inv-loop μ-loop
 add-after c = omega arith
 
 open-at-requires : tie.Need-open-at-requires Inv-loop μ-loop
-open-at-requires c κs = let s = c .before .before .before .before .before .before .before in (s .pre .0, omega arith, omega arith, omega arith)
+open-at-requires c κs = let s = c .before .before .before .before .before .before .before in (s .pre .key24, omega arith, omega arith, omega arith)
 
 -- one turn, with its block opened
 turn : (c : tie.After-open-at Inv-loop μ-loop)
     → let l = c .before .before .before .loop in
     let i = c .before .before .before .before in
     let a = i .before .before .before .before .args in
-    Turn (view (a .key .now) (a .id) (a .recording) (a .image .now)) (i .if1 .end) (l .q) ((l .q - a .p) * 488) (whole (a .key .now) (a .id) (a .recording) (a .image .now) (a .p) (a .buffer .now))
+    Turn (view (a .key .now) (a .id) (a .recording) (a .image .now)) (i .if1 .end) (l .q) ((l .q - a .p) * 488) (restAnswer (a .key .now) (a .id) (a .recording) (a .image .now) (a .p) (a .buffer .now))
     (a .buffer .now) (l .buffer) (c .open-at .last .1 .1 .1 .1 .1 .0) (c .open-at .result)
 turn c =
     let l = c .before .before .before .loop in
@@ -79,78 +72,78 @@ turn c =
 enum-told : tie.Need-enum-told Inv-loop μ-loop
 enum-told c = search needs
 
-answer-requires : tie.Need-answer-requires Inv-loop μ-loop
-answer-requires c κs = (omega arith, omega arith)
+answer-with-requires : tie.Need-answer-with-requires Inv-loop μ-loop
+answer-with-requires c κs = (omega arith, omega arith)
 
 same-length : tie.Need-same-length Inv-loop μ-loop
 same-length c = search needs
 
 returns : tie.Need-returns Inv-loop μ-loop
 returns c =
-    let n = c .before .before .answer in
+    let n = c .before .before .answer-with in
     turn-shut (turn (c .before .before .before .before .before .before .before .before)) (n .ensures .1) (n .ensures .0 .0) (c .before .before .before .before .enum-told .given .1) (n .ensures .0 .1)
 
 enum-told-2 : tie.Need-enum-told-2 Inv-loop μ-loop
 enum-told-2 c = search needs
 
-answer-requires-2 : tie.Need-answer-requires-2 Inv-loop μ-loop
-answer-requires-2 c κs = (omega arith, omega arith)
+answer-with-requires-2 : tie.Need-answer-with-requires-2 Inv-loop μ-loop
+answer-with-requires-2 c κs = (omega arith, omega arith)
 
 same-length-2 : tie.Need-same-length-2 Inv-loop μ-loop
 same-length-2 c = search needs
 
 returns-2 : tie.Need-returns-2 Inv-loop μ-loop
 returns-2 c =
-    let n = c .before .before .answer2 in
+    let n = c .before .before .answer-with2 in
     turn-first (turn (c .before .before .before .before .before .before .before .before)) (n .ensures .1) (n .ensures .0 .0) (c .before .before .before .before .enum-told2 .given .1) (n .ensures .0 .1)
 
 enum-known-last : tie.Need-enum-known-last Inv-loop μ-loop
 enum-known-last c = search needs
 
-add-answer : tie.Need-add-answer Inv-loop μ-loop
-add-answer c = omega arith
+add-kept : tie.Need-add-kept Inv-loop μ-loop
+add-kept c = omega arith
 
-add-t32 : tie.Need-add-t32 Inv-loop μ-loop
-add-t32 c = let h = turn-used (turn (c .before .before .before .before .before .before .before)) (c .before .before .before .last .given .1) in omega arith
+add-t33 : tie.Need-add-t33 Inv-loop μ-loop
+add-t33 c = let h = turn-used (turn (c .before .before .before .before .before .before .before)) (c .before .before .before .last .given .1) in omega arith
 
-answer-requires-3 : tie.Need-answer-requires-3 Inv-loop μ-loop
-answer-requires-3 c κs = (omega arith, omega arith)
+answer-with-requires-3 : tie.Need-answer-with-requires-3 Inv-loop μ-loop
+answer-with-requires-3 c κs = (omega arith, omega arith)
 
 same-length-3 : tie.Need-same-length-3 Inv-loop μ-loop
 same-length-3 c = search needs
 
 returns-3 : tie.Need-returns-3 Inv-loop μ-loop
 returns-3 c =
-    let n = c .before .before .answer3 in
+    let n = c .before .before .answer-with3 in
     let d = c .before .before .before .before .before .before in
     turn-last (turn (c .before .before .before .before .before .before .before .before .before .before)) (d .last .given .1 ∙ ap (λ (x : Bool). seen.More x (d .last .given .0 .1 .0)) (c .before .before .before .before .if2 .taken)) (n .ensures .0 .0) (n .ensures .0 .1) (n .ensures .1)
 
 enum-told-3 : tie.Need-enum-told-3 Inv-loop μ-loop
 enum-told-3 c = search needs
 
-answer-requires-4 : tie.Need-answer-requires-4 Inv-loop μ-loop
-answer-requires-4 c κs = (omega arith, omega arith)
+answer-with-requires-4 : tie.Need-answer-with-requires-4 Inv-loop μ-loop
+answer-with-requires-4 c κs = (omega arith, omega arith)
 
 same-length-4 : tie.Need-same-length-4 Inv-loop μ-loop
 same-length-4 c = search needs
 
 returns-4 : tie.Need-returns-4 Inv-loop μ-loop
 returns-4 c =
-    let n = c .before .before .answer4 in
+    let n = c .before .before .answer-with4 in
     turn-mark (turn (c .before .before .before .before .before .before .before .before)) (n .ensures .1) (n .ensures .0 .0) (c .before .before .before .before .enum-told3 .given .1) (n .ensures .0 .1)
 
 enum-told-4 : tie.Need-enum-told-4 Inv-loop μ-loop
 enum-told-4 c = search needs
 
-answer-requires-5 : tie.Need-answer-requires-5 Inv-loop μ-loop
-answer-requires-5 c κs = (omega arith, omega arith)
+answer-with-requires-5 : tie.Need-answer-with-requires-5 Inv-loop μ-loop
+answer-with-requires-5 c κs = (omega arith, omega arith)
 
 same-length-5 : tie.Need-same-length-5 Inv-loop μ-loop
 same-length-5 c = search needs
 
 returns-5 : tie.Need-returns-5 Inv-loop μ-loop
 returns-5 c =
-    let n = c .before .before .answer5 in
+    let n = c .before .before .answer-with5 in
     turn-end (turn (c .before .before .before .before .before .before .before .before)) (n .ensures .1) (n .ensures .0 .0) (c .before .before .before .before .enum-told4 .given .1) (n .ensures .0 .1)
 
 loop-less : tie.Need-loop-less Inv-loop μ-loop
@@ -173,15 +166,15 @@ loop-again c =
           ∙ turn-more (turn s) (d .last .given .1 ∙ ap (λ (x : Bool). seen.More x (d .last .given .0 .1 .0)) (c .if2 .left)),
     )
 
-answer-requires-6 : tie.Need-answer-requires-6 Inv-loop μ-loop
-answer-requires-6 c κs = (omega arith, omega arith)
+answer-with-requires-6 : tie.Need-answer-with-requires-6 Inv-loop μ-loop
+answer-with-requires-6 c κs = (omega arith, omega arith)
 
 same-length-6 : tie.Need-same-length-6 Inv-loop μ-loop
 same-length-6 c = search needs
 
 returns-6 : tie.Need-returns-6 Inv-loop μ-loop
 returns-6 c =
-    let n = c .before .before .answer6 in
+    let n = c .before .before .answer-with6 in
     let l = c .before .before .before .before .before .loop in
     let a = c .before .before .before .before .before .before .before .before .before .before .args in
     nothing-kept (a .buffer .now) (l .buffer) (l .inv .4) (Cut (l .q)) (l .q) (sym (l .inv .5) ∙ gather-end _ _ (l .q) _ (omega arith)) refl (n .ensures .0 .0) (n .ensures .0 .1) (n .ensures .1)
@@ -192,8 +185,7 @@ read-rest-spec =
     (tie.spec
     Inv-loop
     μ-loop
-    add-if1
-    add-end
+    add-most
     add-q
     loop-holds
     sub-at
@@ -201,29 +193,29 @@ read-rest-spec =
     add-after
     open-at-requires
     enum-told
-    answer-requires
+    answer-with-requires
     same-length
     returns
     enum-told-2
-    answer-requires-2
+    answer-with-requires-2
     same-length-2
     returns-2
     enum-known-last
-    add-answer
-    add-t32
-    answer-requires-3
+    add-kept
+    add-t33
+    answer-with-requires-3
     same-length-3
     returns-3
     enum-told-3
-    answer-requires-4
+    answer-with-requires-4
     same-length-4
     returns-4
     enum-told-4
-    answer-requires-5
+    answer-with-requires-5
     same-length-5
     returns-5
     loop-less
     loop-again
-    answer-requires-6
+    answer-with-requires-6
     same-length-6
     returns-6)

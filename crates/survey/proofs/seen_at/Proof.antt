@@ -1,9 +1,8 @@
--- `survey::seen_at` meets its contract: the block at q, opened into a scratch buffer.
+-- `survey::seen_at` meets its contract: the block at q, opened into the scratch block.
 -- Assumes nothing.
 use borrow.Author.Needs.{needs}
-use mathlib.Core.Path.{refl}
-use Prim.Native.Nat.{ℕ}
-use lib.ListN.{length-replicate}
+use mathlib.Core.Path.{refl, _∙_}
+use native.Mathlib.Omega.{arith}
 use Rattle.reader.proofs.BufferLaws.{opened-says}
 use Rattle.survey.proofs.seen_at.Statement.{statement}
 use Rattle.survey.proofs.seen_at.Tie as tie
@@ -23,28 +22,15 @@ part-open-block-start c = search needs
 part-open-block-end : tie.Need-part-open-block-end
 part-open-block-end c = search needs
 
-slice-aggregate-open-block : tie.Need-slice-aggregate-open-block
-slice-aggregate-open-block c = search needs
-
 open-block-requires : tie.Need-open-block-requires
 open-block-requires c κs = search needs
 
 returns : tie.Need-returns
 returns c =
-    let o = c .before .open-block in
-    let e = c .before .before .before .before .before .before in
+    let e = c .before .before .before .before .before in
     let a = e .args in
-    opened-says (a .key .now) (a .id) (a .recording) (a .image .now) (a .q) (e .pre .0) (e .pre .1 .0) refl (length-replicate {A = ℕ} 488 0) (o .ensures)
+    (c .open-block .kept .1 .1 .1 .1 .1 .0 ∙ e .pre .3, opened-says (a .key .now) (a .id) (a .recording) (a .image .now) (a .q) (e .pre .0) (omega arith) refl (e .pre .3) (c .open-block .ensures))
 
 pub seen-at-spec : {M : Type 1} → statement M
 seen-at-spec =
-    tie.close
-    (tie.spec
-    mul-start
-    cast-open-block
-    sub-open-block
-    part-open-block-start
-    part-open-block-end
-    slice-aggregate-open-block
-    open-block-requires
-    returns)
+    tie.close (tie.spec mul-start cast-open-block sub-open-block part-open-block-start part-open-block-end open-block-requires returns)

@@ -1,44 +1,49 @@
 -- `survey::space` meets its contract: its tests, one after the other, then the spacing itself.
 -- Assumes nothing.
 use borrow.Author.Needs.{needs}
-use borrow.Author.Tests.{eq-eqb, ne-eqb, lt-ltb, le-ltb}
+use borrow.Author.Tests.{ne-eqb, lt-ltb, le-ltb}
+use mathlib.Core.Path.{sym, _∙_}
 use native.Mathlib.Omega.{arith}
-use lib.ListN.{length}
-use Rattle.laws.proofs.ChooseLaws.{passed, failed}
-use Rattle.block.specs.Image.{imageOk, capacityOf}
-use Rattle.reader.specs.Reading.{keyOk}
+use lib.Dec.{ltb}
+use Rattle.laws.specs.Choose.{firstOf}
+use Rattle.block.specs.Image.{capacityOf}
+use Rattle.block.proofs.ImageSize.{image-sized, Asked, asks-refused, asks-rest, asked}
 use Rattle.survey.specs.Spacing.{spaceNumber, spacing}
-use Rattle.survey.proofs.SizeLaws.{size-blocks}
 use Rattle.survey.proofs.space.Statement.{statement}
 use Rattle.survey.proofs.space.Tie as tie
 
-is-image-requires : tie.Need-is-image-requires
-is-image-requires c κs = search needs
+image-then-key-requires : tie.Need-image-then-key-requires
+image-then-key-requires c κs = search needs
 
 returns : tie.Need-returns
-unfolding spacing spaceNumber imageOk
-returns c = rw (failed (c .before .is-image .ensures) (c .if1 .taken))
+unfolding spacing spaceNumber
+returns c =
+    let e = c .before .image-then-key .ensures in
+    let a = c .before .before .before .before .args in
+    rw (asks-refused (a .key .now) (a .image .now) (firstOf (ltb (a .p) (capacityOf (a .image .now))) 8 0) (λ z. c .if1 .taken (e ∙ z)) ∙ sym e, ne-eqb _ _ (c .if1 .taken))
+
+-- nothing is wrong with image and key
+fit : (c : tie.Else1) → Asked (c .before .before .before .before .args .key .now) (c .before .before .before .before .args .image .now)
+fit c = asked _ _ 0 (sym (c .before .image-then-key .ensures) ∙ c .if1 .left) .0
 
 returns-2 : tie.Need-returns-2
-unfolding spacing spaceNumber imageOk keyOk
-returns-2 c = rw (passed (c .before .before .is-image .ensures) (c .before .if1 .left), ne-eqb _ _ (c .if2 .taken))
-
-returns-3 : tie.Need-returns-3
-unfolding spacing spaceNumber imageOk keyOk capacityOf
-returns-3 c =
-    rw (passed (c .before .before .before .is-image .ensures) (c .before .before .if1 .left), eq-eqb _ _ (c .before .if2 .left), le-ltb _ _ (c .if3 .taken))
+unfolding spacing spaceNumber capacityOf
+returns-2 c = rw (asks-rest _ _ (fit (c .before)) _, le-ltb _ _ (c .if2 .taken))
 
 space-on-requires : tie.Need-space-on-requires
+unfolding capacityOf
 space-on-requires c κs =
-    let a = c .before .before .before .before .before .before .args in
-    let k = size-blocks (length (a .image .now)) (passed (c .before .before .before .is-image .ensures) (c .before .before .if1 .left)) in
-    (c .before .if2 .left, (omega arith, (k .2, (k .1, omega arith))))
+    let a = fit (c .before .before) in
+    let z = image-sized _ (a .image-ok) in
+    let b = z .blocks in
+    let m = z .most in
+    let k = a .key24 in
+    omega arith
 
-returns-4 : tie.Need-returns-4
-unfolding spacing spaceNumber imageOk keyOk capacityOf
-returns-4 c =
-    rw (passed (c .before .before .before .before .is-image .ensures) (c .before .before .before .if1 .left), eq-eqb _ _ (c .before .before .if2 .left), lt-ltb _ _ (c .before .if3 .left))
-    (c .space-on .ensures _ (omega arith))
+returns-3 : tie.Need-returns-3
+unfolding spacing spaceNumber capacityOf
+returns-3 c =
+    rw (asks-rest _ _ (fit (c .before .before .before)) _, lt-ltb _ _ (c .before .before .if2 .left)) (c .space-on .ensures _ (omega arith))
 
 pub space-spec : {M : Type 1} → statement M
-space-spec = tie.close (tie.spec is-image-requires returns returns-2 returns-3 space-on-requires returns-4)
+space-spec = tie.close (tie.spec image-then-key-requires returns returns-2 space-on-requires returns-3)

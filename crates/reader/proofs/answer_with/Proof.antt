@@ -1,12 +1,12 @@
--- `reader::answer` meets its contract: zeros behind what is kept.
+-- `reader::answer_with` meets its contract: zeros behind what is kept.
 -- Assumes nothing.
 use borrow.Author.Needs.{needs}
 use mathlib.Core.Path.{refl}
 use Prim.Native.Nat.{_-_}
 use native.Mathlib.Omega.{arith}
 use Rattle.reader.proofs.BufferLaws.{zeros-back}
-use Rattle.reader.proofs.answer.Statement.{statement}
-use Rattle.reader.proofs.answer.Tie as tie
+use Rattle.reader.proofs.answer_with.Statement.{statement}
+use Rattle.reader.proofs.answer_with.Tie as tie
 
 sub-zero : tie.Need-sub-zero
 sub-zero c = search needs
@@ -28,6 +28,6 @@ returns c =
     let s = c .before .before .before .before .before in
     ((refl, refl), zeros-back (s .args .buffer .now) (s .args .kept) (31232 - s .args .kept) (omega arith) (c .before .before .zero .ensures))
 
-pub answer-spec : {M : Type 1} → statement M
-answer-spec =
+pub answer-with-spec : {M : Type 1} → statement M
+answer-with-spec =
     tie.close (tie.spec sub-zero part-zero-start part-zero-end zero-requires same-length returns)
