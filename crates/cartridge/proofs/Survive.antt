@@ -13,8 +13,8 @@ use Rattle.block.specs.Image.{View}
 use Rattle.block.proofs.ImageLaws.{Now, ShowsBut, Stands}
 use Rattle.writer.specs.Items.{Item, sizes}
 use Rattle.writer.proofs.Ready.{AllSound}
-use Rattle.reader.specs.Walk.{walk}
-use Rattle.reader.proofs.WalkLaws.{walk-length}
+use Rattle.reader.specs.Walk.{walkFrom, walk}
+use Rattle.reader.proofs.WalkLaws.{walk-stops}
 use Rattle.cartridge.specs.Handed.{handed}
 use Rattle.cartridge.specs.Recovered.{intact}
 use Rattle.cartridge.proofs.Scan.{walk-scan}
@@ -44,10 +44,10 @@ spoiled-blank c sp v w s d k p a b = go (sp p) refl
 -- t: whether the recording was closed
 pub survive : (c : ℕ) (sp : ℕ → Bool) (v w : View) (is : List Item) (t : Bool) → AllSound is → Stands v 0 (laid is t)
     → Blank v (sizes is + pick t 1 0) c → sizes is + pick t 1 0 ≤ c → Spoiled Shut c sp v w
-    → (handed (walk w c) ≡ intact sp 0 is) × (length (walk w c) ≤ c)
+    → (handed (walk w c) ≡ intact sp 0 is) × ((n : ℕ) → length (walkFrom n w c 0) ≤ c)
 survive c sp v w is t d k b e x = (
   walk-scan w c
       ∙ scan-laid is t sp w c 0 c d (spoiled-shows Shut c sp v w 0 (laid is t) x k (omega (arith, length-laid is t)))
       (rw zero-add (spoiled-blank c sp v w (sizes is + pick t 1 0) x b)) (omega arith) e,
-  walk-length w c,
+  λ n. walk-stops n w c 0,
 )

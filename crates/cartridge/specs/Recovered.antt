@@ -10,7 +10,7 @@ use Rattle.laws.specs.Lists.{same}
 use Rattle.block.specs.Content.{Shut}
 use Rattle.block.specs.Image.{blockAt, capacityOf}
 use Rattle.writer.specs.Items.{Item, size}
-use Rattle.reader.specs.Walk.{walk}
+use Rattle.reader.specs.Walk.{walkFrom, walk}
 use Rattle.cartridge.specs.Chain.{Run, left, items, shown}
 use Rattle.cartridge.specs.Handed.{Handed, hand, handed}
 
@@ -33,7 +33,8 @@ pub record Damaged (r : Run) (now : List ℕ) : Type 0 where
   pub long : length now ≡ length (left r .image)
   pub shuts : (p : ℕ) → p < capacityOf now → blockAt now p ≢ blockAt (left r .image) p → Shut (shown (r .setup) now p)
 
--- the walk hands out exactly the run's items whose blocks are unspoiled, and takes no more reads than there are blocks
+-- the walk hands out exactly the run's items whose blocks are unspoiled, and takes no more reads than there are blocks, however many are
+-- allowed
 pub record Recovered (r : Run) (now : List ℕ) : Type 0 where
   pub gives : handed (walk (shown (r .setup) now) (capacityOf now)) ≡ intact (spoiled (left r .image) now) 0 (items r)
-  pub short : length (walk (shown (r .setup) now) (capacityOf now)) ≤ capacityOf now
+  pub short : (n : ℕ) → length (walkFrom n (shown (r .setup) now) (capacityOf now) 0) ≤ capacityOf now

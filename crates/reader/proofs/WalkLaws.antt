@@ -1,7 +1,7 @@
 -- The walk: a read that is not End goes onward and stays on the cartridge; the walk from a place by its steps; no more reads than blocks.
 -- All of it holds of every view.
 -- Assumes nothing.
-use borrow.Author.Tests.{lt-ltb, le-ltb}
+use borrow.Author.Tests.{lt-ltb, le-ltb, ltb-true}
 use mathlib.Core.Path.{_≡_, refl, sym, ap, _∙_}
 use mathlib.Core.Bool.{Bool, true, false, true≢false}
 use mathlib.Core.List.{List, [], _∷_, _++_}
@@ -12,7 +12,7 @@ use lib.ListN.{length}
 use Rattle.laws.specs.Choose.{pick}
 use Rattle.block.specs.Content.{Content, shut, more, head, first, mark, eod}
 use Rattle.block.specs.Image.{View}
-use Rattle.reader.specs.Walk.{Answer, inside, gather, between, readAt, isEnd, Visit, visit, walkFrom, walk}
+use Rattle.reader.specs.Walk.{Answer, inside, gather, between, readAt, isEnd, visit, walkFrom}
 
 -- ---- where a read goes on: past its place, and on the cartridge
 pub record Onward (q most : ℕ) (a : Answer) : Type 0 where
@@ -60,22 +60,18 @@ walkFrom-step (suc n) v c p h k =
     rw (lt-ltb p c h)
     (ap (λ (j : ℕ). visit p (readAt v c p .told) ∷ pick (isEnd (readAt v c p .told)) [] (walkFrom j v c (readAt v c p .next))) (sym i))
 
--- ---- no more reads than there are blocks
-length-step : (t : Bool) (x : Visit) (r : List Visit) (n : ℕ) → length r ≤ n → length (x ∷ pick t [] r) ≤ suc n
-length-step true x r n h = omega arith
-length-step false x r n h = omega arith
-
-length-pick : (t : Bool) (r : List Visit) (n : ℕ) → length r ≤ n → length (pick t r []) ≤ n
-length-pick true r n h = h
-length-pick false r n h = omega arith
-
-pub walkFrom-length : (n : ℕ) (v : View) (c p : ℕ) → length (walkFrom n v c p) ≤ n
+-- ---- however many reads are allowed, a walk takes no more than there are blocks from its place on
+pub walk-stops : (n : ℕ) (v : View) (c p : ℕ) → length (walkFrom n v c p) ≤ c - p
 unfolding walkFrom
-walkFrom-length zero v c p = omega arith
-walkFrom-length (suc n) v c p =
-    length-pick (ltb p c) (visit p (readAt v c p .told) ∷ pick (isEnd (readAt v c p .told)) [] (walkFrom n v c (readAt v c p .next))) (suc n)
-    (length-step (isEnd (readAt v c p .told)) (visit p (readAt v c p .told)) (walkFrom n v c (readAt v c p .next)) n (walkFrom-length n v c (readAt v c p .next)))
-
-pub walk-length : (v : View) (c : ℕ) → length (walk v c) ≤ c
-unfolding walk
-walk-length v c = walkFrom-length c v c 0
+walk-stops zero v c p = omega arith
+walk-stops (suc n) v c p = go (ltb p c) (isEnd (readAt v c p .told)) refl refl (walk-stops n v c (readAt v c p .next))
+  where
+    go : (t u : Bool) → ltb p c ≡ t → isEnd (readAt v c p .told) ≡ u
+        → length (walkFrom n v c (readAt v c p .next)) ≤ c - readAt v c p .next
+        → length (pick t (visit p (readAt v c p .told) ∷ pick u [] (walkFrom n v c (readAt v c p .next))) []) ≤ c - p
+    go false u e f k = omega arith
+    go true true e f k = let h = ltb-true p c e in omega arith
+    go true false e f k =
+        let h = ltb-true p c e in
+        let s = read-onward v c p h f .passes in
+        omega arith
