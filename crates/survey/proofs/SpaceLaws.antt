@@ -53,13 +53,13 @@ record Shown (x : Content) (told : ℕ) : Type 0 where
   mark : told ≡ 1 → x ≡ head mark
   other : (told ≡ 2 → ⊥) → (told ≡ 1 → ⊥) → Passed x
 
-shown : (x : Content) → Shown x (toldBetween (seenOf x))
-shown shut = record { end = λ e. absurd (omega arith); mark = λ e. absurd (omega arith); other = λ e k. tt }
-shown (more l b) = record { end = λ e. absurd (omega arith); mark = λ e. absurd (omega arith); other = λ e k. tt }
-shown (head (first true b)) = record { end = λ e. absurd (omega arith); mark = λ e. absurd (omega arith); other = λ e k. tt }
-shown (head (first false b)) = record { end = λ e. absurd (omega arith); mark = λ e. absurd (omega arith); other = λ e k. tt }
-shown (head mark) = record { end = λ e. absurd (omega arith); mark = λ e. refl; other = λ e k. k refl }
-shown (head eod) = record { end = λ e. refl; mark = λ e. absurd (omega arith); other = λ e k. e refl }
+shown-by : (x : Content) → Shown x (toldBetween (seenOf x))
+shown-by shut = record { end = λ e. absurd (omega arith); mark = λ e. absurd (omega arith); other = λ e k. tt }
+shown-by (more l b) = record { end = λ e. absurd (omega arith); mark = λ e. absurd (omega arith); other = λ e k. tt }
+shown-by (head (first true b)) = record { end = λ e. absurd (omega arith); mark = λ e. absurd (omega arith); other = λ e k. tt }
+shown-by (head (first false b)) = record { end = λ e. absurd (omega arith); mark = λ e. absurd (omega arith); other = λ e k. tt }
+shown-by (head mark) = record { end = λ e. absurd (omega arith); mark = λ e. refl; other = λ e k. k refl }
+shown-by (head eod) = record { end = λ e. refl; mark = λ e. absurd (omega arith); other = λ e k. e refl }
 
 module _ (v : View) (c n m : ℕ) where
   pub space-none : (p f : ℕ) → n ≡ 0 → s.At p ≡ spaceFrom f v c p n m
@@ -91,14 +91,14 @@ module _ (v : View) (c n m : ℕ) where
       pub space-end : (f : ℕ) → c - p ≤ f → toldBetween (seenOf (v p)) ≡ 2 → s.Short m p ≡ spaceFrom f v c p n m
       unfolding spaceFrom readAt
       space-end zero j t = absurd (omega arith)
-      space-end (suc f) j t = rw (ne-eqb _ _ e, lt-ltb _ _ h, shown (v p) .end t)
+      space-end (suc f) j t = rw (ne-eqb _ _ e, lt-ltb _ _ h, shown-by (v p) .end t)
 
       pub space-mark : (f : ℕ) → c - p ≤ f → toldBetween (seenOf (v p)) ≡ 1 → spaceFrom (f - 1) v c (p + 1) (n - 1) (m + 1) ≡ spaceFrom f v c p n m
       unfolding spaceFrom readAt
       space-mark zero j t = absurd (omega arith)
       space-mark (suc f) j t =
           let i : suc f - 1 ≡ f = omega arith in
-          rw (ne-eqb _ _ e, lt-ltb _ _ h, shown (v p) .mark t, i, add-one p)
+          rw (ne-eqb _ _ e, lt-ltb _ _ h, shown-by (v p) .mark t, i, add-one p)
 
       -- r is the answer from the next block on
       pub space-other : (r : Spaced) → (toldBetween (seenOf (v p)) ≡ 2 → ⊥) → (toldBetween (seenOf (v p)) ≡ 1 → ⊥)
@@ -106,7 +106,7 @@ module _ (v : View) (c n m : ℕ) where
       unfolding spaceFrom readAt
       space-other r t u w zero j = absurd (omega arith)
       space-other r t u w (suc f) j =
-          let k = shown (v p) .other t u in
+          let k = shown-by (v p) .other t u in
           let i = passed-on (v p) v c p false true false k in
           let o = read-onward v c p h i in
           let q = readAt v c p .next in
