@@ -49,5 +49,5 @@ survive c sp v w is t d k b e x = (
   walk-scan w c
       ∙ scan-laid is t sp w c 0 c d (spoiled-shows Shut c sp v w 0 (laid is t) x k (omega (arith, length-laid is t)))
       (rw zero-add (spoiled-blank c sp v w (sizes is + pick t 1 0) x b)) (omega arith) e,
-  λ n. walk-stops n w c 0,
+  λ n. let k = walk-stops n w c 0 in omega arith,
 )
