@@ -23,7 +23,7 @@ use Rattle.cartridge.proofs.Made.{Made, made}
 
 -- a state that a chain left open is ready for a call
 module _ (a : Setup) (s : WriterState) (img : List ℕ) (is : List Item) (m : Made a s img is) (k : length (a .key) ≡ 24) where
-  image-ok : imageOk img ≡ true
+  pub image-ok : imageOk img ≡ true
   unfolding imageOk sizeOk
   image-ok =
       let l = m .long in

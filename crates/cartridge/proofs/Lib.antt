@@ -7,4 +7,4 @@ pub mod CanBeMet
 pub mod Demand3
 pub mod Cases
 pub mod Tail
-pub mod AtTheCode
+pub mod ByCalls

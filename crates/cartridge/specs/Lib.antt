@@ -2,4 +2,5 @@
 pub mod Chain
 pub mod Handed
 pub mod Recovered
+pub mod ByCalls
 pub mod Cases
