@@ -1,3 +1,4 @@
 -- How the writer's calls cross.
 pub mod Crossing
+pub mod Chained
 pub mod Unique

@@ -2,3 +2,4 @@
 pub mod FlatWriter
 pub mod FlatReader
 pub mod FlatSurvey
+pub mod NbChain
