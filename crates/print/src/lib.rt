@@ -24,6 +24,11 @@ pub fn named(name: &[u8], n: u64) {
     decimal(n);
 }
 
+// A number behind a space.
+pub fn spaced(n: u64) {
+    named(b" ", n);
+}
+
 fn digit(n: u8) -> u8 {
     DIGITS[(n % 16) as usize]
 }
@@ -41,12 +46,18 @@ pub fn hex(bytes: &[u8]) {
     }
 }
 
-pub fn reply(reply: Reply) {
+// The result of a writer's call, as a line ends with it.
+pub fn result(reply: Reply) {
     match reply {
-        Reply::Plain => say(b"plain"),
-        Reply::Warned => say(b"warned"),
-        Reply::Refused(n) => named(b"refused ", n as u64),
+        Reply::Plain => say(b" plain\n"),
+        Reply::Warned => say(b" warned\n"),
+        Reply::Refused(n) => refused(n),
     }
+}
+
+fn refused(n: u8) {
+    named(b" refused ", n as u64);
+    line_end();
 }
 
 // ---- Reading.

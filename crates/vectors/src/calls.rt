@@ -72,18 +72,31 @@ fn state_call(letter: u8, state: &mut [u8], text: &[u8], out: &mut [u8], domain:
     }
 }
 
-fn show_out(letter: u8, out: &[u8]) {
+fn show_out(out: &[u8]) {
+    show::buffer(b"out ", out);
+}
+
+fn show_state(letter: u8, state: &[u8], out: &[u8]) {
+    show::buffer(b"state ", state);
     match letter {
-        b'g' | b'e' | b'd' => show::buffer(b"out ", out),
-        _ => {}
+        b'p' | b'q' | b'u' => {}
+        _ => show_out(out),
     }
 }
 
 fn on_state(line: &[u8], letter: u8, state: &mut [u8], text: &[u8], out: &mut [u8], domain: u8) {
     let number = state_call(letter, state, text, out, domain);
     answer(line, number);
-    show::buffer(b"state ", state);
-    show_out(letter, out);
+    show_state(letter, state, out);
+}
+
+fn with_state(line: &[u8], letter: u8, text: &[u8], out: &mut [u8])
+    requires { ⌜ length (now line) ≡ 37 ⌝ }
+{
+    let a = field(line, 0);
+    let domain = (field(line, 2) % 256) as u8;
+    let mut state = filled(1);
+    on_state(line, letter, &mut state[0..a], text, out, domain);
 }
 
 // The length of the receiving buffer, which a get has in the field of the others' text.
@@ -100,21 +113,11 @@ fn out_of(line: &[u8], letter: u8) -> usize
 fn call_on_state(line: &[u8], letter: u8)
     requires { ⌜ length (now line) ≡ 37 ⌝ }
 {
-    let a = field(line, 0);
     let b = field(line, 1);
     let d = out_of(line, letter);
-    let domain = (field(line, 2) % 256) as u8;
-    let mut state = filled(1);
     let text = filled(5);
     let mut out = filled(6);
-    on_state(
-        line,
-        letter,
-        &mut state[0..a],
-        &text[0..b],
-        &mut out[0..d],
-        domain,
-    );
+    with_state(line, letter, &text[0..b], &mut out[0..d]);
 }
 
 // ---- Sealing and opening.
@@ -153,13 +156,6 @@ fn damage(sealed: &mut [u8], f: usize) {
     }
 }
 
-// c, or the limit of associated data.
-fn lawful(c: usize) -> usize
-    ensures { λ r. ⌜ r ≤ 65536 ⌝ }
-{
-    if c < 65536 { c } else { 65536 }
-}
-
 // The length of the message that d bytes seal.
 fn message_of(d: usize) -> usize
     ensures { λ r. ⌜ r ≤ d ⌝ }
@@ -167,49 +163,62 @@ fn message_of(d: usize) -> usize
     if d < 16 { 0 } else { d - 16 }
 }
 
-// The pattern of the message, sealed under whole key and nonce; where that has no sealed length, sealing leaves the bare pattern.
+// Seals the pattern of the message under whole key and nonce; where sealing refuses, so does opening, and the bare pattern stays.
 fn make_sealed(text: &mut [u8], c: usize, f: usize)
-    requires { ⌜ length (now text) < 100000 ⌝ }
+    requires { ⌜ (length (now text) < 100000) × (c < 100000) ⌝ }
 {
     let m = message_of(text.len());
     let message = filled(5);
-    sealing(false, 24, 16, lawful(c), &message[0..m], text);
+    sealing(false, 24, 16, c, &message[0..m], text);
     damage(text, f);
 }
 
-fn on_sealing(line: &[u8], open: bool, text: &[u8], out: &mut [u8])
+fn seal_of(line: &[u8], text: &[u8], out: &mut [u8]) -> u8
     requires { ⌜ length (now line) ≡ 37 ⌝ }
 {
-    let number = sealing(
+    let open = letter_of(line) == b'o';
+    sealing(
         open,
         field(line, 0),
         field(line, 1),
         field(line, 2),
         text,
         out,
-    );
-    answer(line, number);
-    show::buffer(b"out ", out);
+    )
 }
 
-fn on_opening(line: &[u8], text: &mut [u8], out: &mut [u8])
+fn on_sealing(line: &[u8], text: &[u8], out: &mut [u8])
+    requires { ⌜ length (now line) ≡ 37 ⌝ }
+{
+    let number = seal_of(line, text, out);
+    answer(line, number);
+    show_out(out);
+}
+
+// What an opening is given is sealed first.
+fn made_ready(line: &[u8], text: &mut [u8])
     requires { ⌜ (length (now line) ≡ 37) × (length (now text) < 100000) ⌝ }
 {
-    make_sealed(text, field(line, 2), field(line, 5));
-    on_sealing(line, true, text, out);
+    if letter_of(line) == b'o' {
+        make_sealed(text, field(line, 2), field(line, 5));
+    }
 }
 
-fn call_sealing(line: &[u8], open: bool)
+fn with_text(line: &[u8], text: &mut [u8], out: &mut [u8])
+    requires { ⌜ (length (now line) ≡ 37) × (length (now text) < 100000) ⌝ }
+{
+    made_ready(line, text);
+    on_sealing(line, text, out);
+}
+
+fn call_sealing(line: &[u8])
     requires { ⌜ length (now line) ≡ 37 ⌝ }
 {
     let d = field(line, 3);
     let e = field(line, 4);
     let mut text = filled(5);
     let mut out = filled(6);
-    if open {
-        return on_opening(line, &mut text[0..d], &mut out[0..e]);
-    }
-    on_sealing(line, false, &text[0..d], &mut out[0..e]);
+    with_text(line, &mut text[0..d], &mut out[0..e]);
 }
 
 // ---- The input.
@@ -218,8 +227,8 @@ fn serve(line: &[u8])
 {
     let letter = letter_of(line);
     match letter {
-        b's' => call_sealing(line, false),
-        b'o' => call_sealing(line, true),
+        b's' => call_sealing(line),
+        b'o' => call_sealing(line),
         _ => call_on_state(line, letter),
     }
 }

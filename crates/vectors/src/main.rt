@@ -4,27 +4,25 @@ mod paper;
 mod show;
 
 ghost use Prim.Native.Nat.{_≤_};
+use writer::Reply;
 
 // ---- Starts at the edges of what an image and a warning zone may be: size, zone, the state's capacity, result.
-fn start(image: &mut [u8], zone: usize) {
-    let size = image.len();
-    let wrote = writer::start(1, 1, zone, image);
-    let state = wrote.state;
-    let reply = wrote.reply;
+fn show_start(size: usize, zone: usize, capacity: usize, reply: Reply) {
     print::named(b"start ", size as u64);
-    print::named(b" ", zone as u64);
-    print::named(b" ", state.capacity as u64);
-    print::say(b" ");
-    print::reply(reply);
-    print::line_end();
+    print::spaced(zone as u64);
+    print::spaced(capacity as u64);
+    print::result(reply);
 }
 
-// A start on the first `size` bytes, of 129 blocks at the most.
+// A start on so many bytes, of 129 blocks at the most.
 fn start_of(size: usize, zone: usize)
     requires { ⌜ size ≤ 66048 ⌝ }
 {
     let mut image = [0u8; 66048];
-    start(&mut image[0..size], zone);
+    let wrote = writer::start(1, 1, zone, &mut image[0..size]);
+    let state = wrote.state;
+    let reply = wrote.reply;
+    show_start(size, zone, state.capacity, reply);
 }
 
 fn sizes() {

@@ -134,7 +134,7 @@ fn show_rounds() {
     show_steps(&mut state, 12);
 }
 
-// ---- 1.3.2: what is sealed, and the trace found from its end, by undoing π and the padding.
+// ---- 1.3.2: what is sealed, and the trace found from its end, by undoing π and what was added before it.
 const KEY: [u8; 24] = *b"192-bit Secret Key value";
 
 const NONCE: [u8; 16] = *b"Nonces Used Once";
@@ -143,74 +143,62 @@ const DATA: [u8; 32] = *b"AAD Test Vector Exact Block 32 B";
 
 const MESSAGE: [u8; 38] = *b"2 Block Test Vector for stribob192r2d2";
 
-fn show_sealed() {
+fn show_sealed(key: &[u8], nonce: &[u8], data: &[u8], message: &[u8]) {
     let mut sealed = [0u8; 54];
-    aead::seal(&KEY, &NONCE, &DATA, &MESSAGE, &mut sealed);
-    print::say(b"# 1.3.2 sealed\n");
-    show::buffer(b"", &sealed);
+    aead::seal(key, nonce, data, message, &mut sealed);
+    show::buffer(b"# 1.3.2 sealed\n", &sealed);
 }
 
-fn toggle(state: &mut [u8; 64], i: usize, x: u8) {
-    if i < 64 {
-        state[i] = state[i] ^ x;
+// What step n adds: its bytes, 01 behind them where it closes an operation, and at 32 the domain byte and what closes.
+fn added(n: u8) -> [u8; 33] {
+    match n {
+        0 => *b"192-bit Secret Key value\x01\0\0\0\0\0\0\0\x12",
+        1 => *b"Nonces Used Once\x01\0\0\0\0\0\0\0\0\0\0\0\0\0\0\0\x22",
+        2 => *b"AAD Test Vector Exact Block 32 B\x43",
+        3 => *b"2 Block Test Vector for stribob1\x50",
+        _ => *b"92r2d2\x01\0\0\0\0\0\0\0\0\0\0\0\0\0\0\0\0\0\0\0\0\0\0\0\0\0\x52",
     }
 }
 
-// Takes a group and its domain byte out of the state.
-fn take_out(state: &mut [u8; 64], bytes: &[u8], domain: u8) {
-    buffer::add(state, bytes);
-    toggle(state, 32, domain);
-}
-
-fn open_again(state: &mut [u8; 64], n: usize) {
-    toggle(state, n, 1);
-    toggle(state, 32, 2);
-}
-
-// π's output and input of step n, and what it was given before the group was added.
-fn step_back(state: &mut [u8; 64], n: u8, bytes: &[u8], domain: u8) {
+// From π's output at step n to that of the step before.
+fn step_back(state: &mut [u8; 64], n: u8) {
     show_state(b"out ", n, state);
     permutation::permute_back(state);
     show_state(b"Block ", n, state);
-    take_out(state, bytes, domain);
+    buffer::add(state, &added(n));
 }
 
-// The same for a step that closes an operation.
-fn close_back(state: &mut [u8; 64], n: u8, bytes: &[u8], domain: u8) {
-    step_back(state, n, bytes, domain);
-    open_again(state, bytes.len());
+fn steps_back(state: &mut [u8; 64]) {
+    for k in 0u8..5 {
+        step_back(state, 4 - k);
+    }
+}
+
+fn put_all(state: &mut [u8], key: &[u8], nonce: &[u8], data: &[u8]) {
+    sponge::put(state, key, 0x10);
+    sponge::put(state, nonce, 0x20);
+    sponge::put(state, data, 0x40);
 }
 
 // The state that sealing leaves.
-fn sealed_state() -> [u8; 64] {
+fn sealed_state(key: &[u8], nonce: &[u8], data: &[u8], message: &[u8]) -> [u8; 64] {
     let mut state = [0u8; 64];
     let mut cipher = [0u8; 38];
-    sponge::put(&mut state, &KEY, 0x10);
-    sponge::put(&mut state, &NONCE, 0x20);
-    sponge::put(&mut state, &DATA, 0x40);
-    sponge::enc(&mut state, &MESSAGE, &mut cipher, 0x50);
+    put_all(&mut state, key, nonce, data);
+    sponge::enc(&mut state, message, &mut cipher, 0x50);
     state
 }
 
-fn message_back(state: &mut [u8; 64]) {
-    let message = MESSAGE;
-    close_back(state, 4, &message[32..], 0x50);
-    step_back(state, 3, &message[0..32], 0x50);
-}
-
-fn show_trace() {
+fn show_sealing(key: &[u8], nonce: &[u8], data: &[u8], message: &[u8]) {
+    show_sealed(key, nonce, data, message);
     print::say(b"# 1.3.2 trace, from its end\n");
-    let mut state = sealed_state();
-    message_back(&mut state);
-    close_back(&mut state, 2, &DATA, 0x40);
-    close_back(&mut state, 1, &NONCE, 0x20);
-    close_back(&mut state, 0, &KEY, 0x10);
+    let mut state = sealed_state(key, nonce, data, message);
+    steps_back(&mut state);
 }
 
 pub fn all() {
     print::say(b"# table 1.1 by the miniboxes\n");
     show_table();
     show_rounds();
-    show_sealed();
-    show_trace();
+    show_sealing(&KEY, &NONCE, &DATA, &MESSAGE);
 }

@@ -26,15 +26,19 @@ fn show_sum(h: u64) {
     print::hex_byte((h % 256) as u8);
 }
 
+fn show_last(bytes: &[u8]) {
+    print::say(b" ");
+    print::hex(bytes);
+    print::say(b" ");
+}
+
 // The first and the last 16 bytes, and the sum.
 fn show_ends(bytes: &[u8])
     requires { ⌜ 80 < length (now bytes) ⌝ }
 {
     let n = bytes.len();
     print::hex(&bytes[0..16]);
-    print::say(b" ");
-    print::hex(&bytes[n - 16..]);
-    print::say(b" ");
+    show_last(&bytes[n - 16..]);
     show_sum(sum_of(bytes));
 }
 
