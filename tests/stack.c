@@ -19,11 +19,15 @@
 #define NONCE nonce, sizeof nonce
 #define STATE state, sizeof state
 #define IMAGE image, sizeof image
+#define REEL reel, sizeof reel
 
 static uint8_t *stack;
-static uint8_t image[BLOCKS * NB_BLOCK_BYTES], buffer[NB_RECORD_MAX], state[NB_STATE_BYTES], other[NB_STATE_BYTES];
+static uint8_t image[BLOCKS * NB_BLOCK_BYTES], reel[BLOCKS * NB_BLOCK_BYTES], buffer[NB_RECORD_MAX], state[NB_STATE_BYTES], other[NB_STATE_BYTES];
 static uint8_t text[LONG], sealed[LONG + NB_TAG_BYTES], back[LONG];
 static const uint8_t key[NB_KEY_BYTES] = {1, 2, 3}, nonce[NB_NONCE_BYTES] = {4, 5};
+
+/* lawful for the reel: each call of the writer on it is taken */
+static const nb_state blank = {1, 1, BLOCKS, 1, 0, 0};
 
 static void read_everywhere(void)
 {
@@ -46,6 +50,10 @@ static void read_everywhere(void)
     X(nb_dec, nb_dec(STATE, text, LONG, back, LONG, 0)) \
     X(nb_seal, nb_seal(KEY, NONCE, text, LONG, text, LONG, sealed, sizeof sealed)) \
     X(nb_open, nb_open(KEY, NONCE, text, LONG, sealed, sizeof sealed, back, LONG)) \
+    X(nb_start, nb_start(1, 1, 1, REEL)) \
+    X(nb_record, nb_record(blank, KEY, buffer, sizeof buffer, REEL)) \
+    X(nb_mark, nb_mark(blank, KEY, REEL)) \
+    X(nb_close, nb_close(blank, KEY, REEL)) \
     X(nb_read, read_everywhere()) \
     X(nb_record_part, nb_record_part(buffer, sizeof buffer, 1)) \
     X(nb_look, nb_look(IMAGE, 1)) \

@@ -24,7 +24,7 @@ use Rattle.reader.specs.Reading.{readNumber, readAnswer, outcomeOf, gotOf, fill
 use Rattle.reader.proofs.GatherLaws.{filled-least}
 use Rattle.reader.proofs.WalkLaws.{read-onward, walkFrom-over, walkFrom-step}
 use Rattle.cartridge.specs.Chain.{Call, call, took, chain, accepted, AllCallBytes, Setup, Run, begun, left, items, shown, Proper}
-use Rattle.cartridge.specs.Handed.{Handed, given, handed}
+use Rattle.cartridge.specs.Handed.{Handed, handsOut, handed}
 use Rattle.cartridge.specs.Recovered.{spoiled, intact, Damaged}
 use Rattle.cartridge.specs.ByCalls.{Writes, last, next, takenBy, Step, step, Reads, over, stop, goes, inHand, allInHand}
 use Rattle.cartridge.proofs.Made.{made}
@@ -64,7 +64,7 @@ part-is b d =
     let h : length d ≤ length (splice b 0 (d ++ z)) = omega (arith, ap length e ∙ length-append d (z ++ t)) in
     rw (le-leb (length d) (length (splice b 0 (d ++ z))) h) (ap (take (length d)) e ∙ take-at d (z ++ t) (length d) refl)
 
-hand-is : (p : ℕ) (t : Told) (b : List ℕ) → inHand p (outcomeOf t) (splice b 0 (filled t)) ≡ given p t
+hand-is : (p : ℕ) (t : Told) (b : List ℕ) → inHand p (outcomeOf t) (splice b 0 (filled t)) ≡ handsOut p t
 hand-is p (Record d) b = rw (part-is b d)
 hand-is p Mark b = refl
 hand-is p End b = refl

@@ -17,7 +17,7 @@ use Rattle.writer.proofs.Pieces.{length-blocks}
 use Rattle.writer.proofs.Ready.{Sound, AllSound}
 use Rattle.writer.proofs.InOrder.{length-layout, size-pos, joined-up, Cutting, cutting}
 use Rattle.reader.specs.Walk.{Told, Record, Mark, isEnd, Answer, answer, inside, gather, between, readAt}
-use Rattle.cartridge.specs.Handed.{Handed, hand, given}
+use Rattle.cartridge.specs.Handed.{Handed, hand, handsOut}
 use Rattle.cartridge.specs.Recovered.{whole, intact}
 use Rattle.reader.proofs.GapLaws.{Quiet, Gap, here, step}
 use Rattle.cartridge.proofs.Scan.{scan, quiet-scan, scan-gap}
@@ -93,12 +93,12 @@ read-noEnd v c p h = go (v p) h
     go (head mark) h = refl
     go (head eod) h = absurd (true≢false h)
 
-shut-inside : (o : Content) (p q : ℕ) (acc : List ℕ) (k : List ℕ → Answer) → Shut o → given p (inside o q acc k .told) ≡ []
+shut-inside : (o : Content) (p q : ℕ) (acc : List ℕ) (k : List ℕ → Answer) → Shut o → handsOut p (inside o q acc k .told) ≡ []
 shut-inside shut p q acc k h = refl
 shut-inside (more l b) p q acc k h = absurd h
 shut-inside (head x) p q acc k h = absurd h
 
-shut-between : (o : Content) (v : View) (c p : ℕ) → Shut o → given p (between o v c p .told) ≡ []
+shut-between : (o : Content) (v : View) (c p : ℕ) → Shut o → handsOut p (between o v c p .told) ≡ []
 shut-between shut v c p h = refl
 shut-between (more l b) v c p h = absurd h
 shut-between (head x) v c p h = absurd h
@@ -115,37 +115,37 @@ shut-noEod (head x) h = absurd h
 
 -- the record's read from its second block on
 gather-broken : (xs : List (List ℕ)) (x : List ℕ) (room : ℕ) (sp : ℕ → Bool) (v : View) (p q : ℕ) (acc : List ℕ) → ShowsBut Shut sp v q (following (x ∷ xs))
-    → whole sp q (length (x ∷ xs)) ≡ false → given p (gather room v q acc .told) ≡ []
+    → whole sp q (length (x ∷ xs)) ≡ false → handsOut p (gather room v q acc .told) ≡ []
 unfolding following gather
 gather-broken xs x zero sp v p q acc s w = refl
 gather-broken [] x (suc room) sp v p q acc s w = go (sp q) (s .0) w
   where
-    go : (t : Bool) → Now Shut t (v q) (more true x) → pick t false true ≡ false → given p (gather (suc room) v q acc .told) ≡ []
+    go : (t : Bool) → Now Shut t (v q) (more true x) → pick t false true ≡ false → handsOut p (gather (suc room) v q acc .told) ≡ []
     go true h w = shut-inside (v q) p q acc (λ a. gather room v (suc q) a) h
     go false h w = absurd (true≢false w)
 gather-broken (y ∷ ys) x (suc room) sp v p q acc s w = go (sp q) (s .0) w (λ k. gather-broken ys y room sp v p (suc q) (acc ++ x) (s .1) k)
   where
     go : (t : Bool) → Now Shut t (v q) (more false x) → pick t false (whole sp (suc q) (length (y ∷ ys))) ≡ false
-        → (whole sp (suc q) (length (y ∷ ys)) ≡ false → given p (gather room v (suc q) (acc ++ x) .told) ≡ []) → given p (gather (suc room) v q acc .told) ≡ []
+        → (whole sp (suc q) (length (y ∷ ys)) ≡ false → handsOut p (gather room v (suc q) (acc ++ x) .told) ≡ []) → handsOut p (gather (suc room) v q acc .told) ≡ []
     go true h w k = shut-inside (v q) p q acc (λ a. gather room v (suc q) a) h
     go false h w k = rw h (k w)
 
-pub read-broken : (i : Item) (sp : ℕ → Bool) (v : View) (c s : ℕ) → Sound i → ShowsBut Shut sp v s (blocks i) → whole sp s (size i) ≡ false → given s (readAt v c s .told) ≡ []
+pub read-broken : (i : Item) (sp : ℕ → Bool) (v : View) (c s : ℕ) → Sound i → ShowsBut Shut sp v s (blocks i) → whole sp s (size i) ≡ false → handsOut s (readAt v c s .told) ≡ []
 unfolding recorded readAt
 read-broken (rec b) sp v c s d k w =
     let t = cutting b d in go (pieces (size (rec b)) b) (t .some) k (rw (t .count) w)
   where
-    at : (xs : List (List ℕ)) (x : List ℕ) (t : Bool) → Now Shut t (v s) (head (first (isNil xs) x)) → ShowsBut Shut sp v (suc s) (following xs) → pick t false (whole sp (suc s) (length xs)) ≡ false → given s (readAt v c s .told) ≡ []
+    at : (xs : List (List ℕ)) (x : List ℕ) (t : Bool) → Now Shut t (v s) (head (first (isNil xs) x)) → ShowsBut Shut sp v (suc s) (following xs) → pick t false (whole sp (suc s) (length xs)) ≡ false → handsOut s (readAt v c s .told) ≡ []
     at xs x true h k w = shut-between (v s) v c s h
     at [] x false h k w = absurd (true≢false w)
     at (y ∷ ys) x false h k w = rw h (gather-broken ys y (min (c - suc s) 63) sp v s (suc s) x k w)
 
-    go : (xs : List (List ℕ)) → 1 ≤ length xs → ShowsBut Shut sp v s (recorded xs) → whole sp s (length xs) ≡ false → given s (readAt v c s .told) ≡ []
+    go : (xs : List (List ℕ)) → 1 ≤ length xs → ShowsBut Shut sp v s (recorded xs) → whole sp s (length xs) ≡ false → handsOut s (readAt v c s .told) ≡ []
     go [] o k w = absurd (omega arith)
     go (x ∷ xs) o k w = at xs x (sp s) (k .0) (k .1) w
 read-broken fmark sp v c s d k w = go (sp s) (k .0) w
   where
-    go : (t : Bool) → Now Shut t (v s) (head mark) → pick t false true ≡ false → given s (readAt v c s .told) ≡ []
+    go : (t : Bool) → Now Shut t (v s) (head mark) → pick t false true ≡ false → handsOut s (readAt v c s .told) ≡ []
     go true h w = shut-between (v s) v c s h
     go false h w = absurd (true≢false w)
 
@@ -187,9 +187,9 @@ item-gap (rec b) sp v s d k = go (pieces (size (rec b)) b) (cutting b d) k
     go (x ∷ xs) t k = let l = t .count in following-gap xs sp v (suc s) (s + size (rec b)) (k .1) (omega arith)
 item-gap fmark sp v s d k = rw add-one here
 
-pub given-item : (i : Item) (s : ℕ) → given s (outcome i) ≡ hand s i ∷ []
-given-item (rec b) s = refl
-given-item fmark s = refl
+pub item-handed : (i : Item) (s : ℕ) → handsOut s (outcome i) ≡ hand s i ∷ []
+item-handed (rec b) s = refl
+item-handed fmark s = refl
 
 pub scan-item : (i : Item) (sp : ℕ → Bool) (v : View) (c s m n : ℕ) → Sound i → ShowsBut Shut sp v s (blocks i) → s + m ≡ c → s + size i + n ≡ c
     → scan m v c s ≡ pick (whole sp s (size i)) (hand s i ∷ []) [] ++ scan n v c (s + size i)
@@ -198,8 +198,8 @@ scan-item i sp v c s (suc m) n d k hm hn =
     rw (read-noEnd v c s (item-noEod Shut shut-noEod i sp v s d k), scan-gap (item-gap i sp v s d k) c m n (omega arith) hn)
     (ap (λ (l : List Handed). l ++ scan n v c (s + size i)) (go (whole sp s (size i)) refl))
   where
-    go : (t : Bool) → whole sp s (size i) ≡ t → given s (readAt v c s .told) ≡ pick t (hand s i ∷ []) []
-    go true e = rw (read-whole i v c s d (shows-whole Shut sp v s (blocks i) k (rw (length-blocks i) e)) (omega arith)) (given-item i s)
+    go : (t : Bool) → whole sp s (size i) ≡ t → handsOut s (readAt v c s .told) ≡ pick t (hand s i ∷ []) []
+    go true e = rw (read-whole i v c s d (shows-whole Shut sp v s (blocks i) k (rw (length-blocks i) e)) (omega arith)) (item-handed i s)
     go false e = read-broken i sp v c s d k e
 
 -- ---- a whole cartridge

@@ -13,12 +13,12 @@ use Rattle.block.specs.Image.{View}
 use Rattle.reader.specs.Walk.{isEnd, readAt, walkFrom, walk}
 use Rattle.reader.proofs.WalkLaws.{read-onward}
 use Rattle.reader.proofs.GapLaws.{Quiet, Gap, here, step, gap-le, read-gap}
-use Rattle.cartridge.specs.Handed.{Handed, given, handed}
+use Rattle.cartridge.specs.Handed.{Handed, handsOut, handed}
 
 -- what reads at n places from p on hand out
 abbrev pub scan : ℕ → View → ℕ → ℕ → List Handed
 scan zero v c p = []
-scan (suc n) v c p = given p (readAt v c p .told) ++ pick (isEnd (readAt v c p .told)) [] (scan n v c (suc p))
+scan (suc n) v c p = handsOut p (readAt v c p .told) ++ pick (isEnd (readAt v c p .told)) [] (scan n v c (suc p))
 
 pub quiet-scan : (v : View) (c q n : ℕ) → Quiet (v q) → scan (suc n) v c q ≡ scan n v c (suc q)
 unfolding readAt
@@ -44,14 +44,14 @@ walk-scan-from (suc n) v c p (suc m) e h =
   where
     go : (t : Bool) → isEnd (readAt v c p .told) ≡ t
         → ((r : ℕ) → readAt v c p .next + r ≡ c → r ≤ n → handed (walkFrom n v c (readAt v c p .next)) ≡ scan r v c (readAt v c p .next))
-        → given p (readAt v c p .told) ++ handed (pick t [] (walkFrom n v c (readAt v c p .next))) ≡ given p (readAt v c p .told) ++ pick t [] (scan m v c (suc p))
+        → handsOut p (readAt v c p .told) ++ handed (pick t [] (walkFrom n v c (readAt v c p .next))) ≡ handsOut p (readAt v c p .told) ++ pick t [] (scan m v c (suc p))
     go true k ih = refl
     go false k ih =
         let o = read-onward v c p (omega arith) k in
         let s = o .stays in
         let g = o .passes in
         let r : ℕ = c - readAt v c p .next in
-        ap (λ (l : List Handed). given p (readAt v c p .told) ++ l)
+        ap (λ (l : List Handed). handsOut p (readAt v c p .told) ++ l)
         (ih r (omega arith) (omega arith) ∙ sym (scan-gap (read-gap v c p k) c m r (omega arith) (omega arith)))
 
 pub walk-scan : (v : View) (c : ℕ) → handed (walk v c) ≡ scan c v c 0

@@ -24,8 +24,8 @@ unfoldable pub numbered : List ℕ
 numbered = stateBy (λ k. k)
 
 -- a zero state that is closed after n bytes
-unfoldable pub closed : ℕ → ℕ → List ℕ
-closed domain n = padClose domain n (replicate 64 0)
+unfoldable pub closedState : ℕ → ℕ → List ℕ
+closedState domain n = padClose domain n (replicate 64 0)
 
 -- a record of n zeros at block p of a recording with c = 16 and e = 4
 unfoldable pub recordAt : ℕ → ℕ → Done
@@ -60,9 +60,9 @@ cases =
     -- P7 mix of 01 and seven zeros
     record { found = take 8 (mix one-then-zeros); said = 0x01 ∷ 0x01 ∷ 0x04 ∷ 0x01 ∷ 0x08 ∷ 0x05 ∷ 0x02 ∷ 0x09 ∷ [] } ∷
     -- P8 closing a 24-byte key: bytes 24 and 32
-    record { found = getD (closed 0x10 24) 24 0 ∷ getD (closed 0x10 24) 32 0 ∷ []; said = 0x01 ∷ 0x12 ∷ [] } ∷
+    record { found = getD (closedState 0x10 24) 24 0 ∷ getD (closedState 0x10 24) 32 0 ∷ []; said = 0x01 ∷ 0x12 ∷ [] } ∷
     -- P9 closing 32 bytes of associated data: byte 32
-    record { found = getD (closed 0x40 32) 32 0 ∷ []; said = 0x43 ∷ [] } ∷
+    record { found = getD (closedState 0x40 32) 32 0 ∷ []; said = 0x43 ∷ [] } ∷
     -- P10 lengths: their blocks
     record { found = blocksFor 488 ∷ blocksFor 489 ∷ blocksFor 31232 ∷ []; said = 1 ∷ 2 ∷ 64 ∷ [] } ∷
     -- P11 position 12 is not warned

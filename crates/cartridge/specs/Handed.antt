@@ -12,15 +12,15 @@ abbrev pub hand : ℕ → Item → Handed
 hand p i = record { place = p; item = i }
 
 -- an answer at p
-abbrev pub given : ℕ → Told → List Handed
-given p (Record b) = hand p (rec b) ∷ []
-given p Mark = hand p fmark ∷ []
-given p End = []
-given p Bad = []
-given p Stray = []
-given p (Cut q) = []
+abbrev pub handsOut : ℕ → Told → List Handed
+handsOut p (Record b) = hand p (rec b) ∷ []
+handsOut p Mark = hand p fmark ∷ []
+handsOut p End = []
+handsOut p Bad = []
+handsOut p Stray = []
+handsOut p (Cut q) = []
 
 -- the answers of a walk
 abbrev pub handed : List Visit → List Handed
 handed [] = []
-handed (x ∷ xs) = given (x .at) (x .says) ++ handed xs
+handed (x ∷ xs) = handsOut (x .at) (x .says) ++ handed xs
