@@ -5,3 +5,4 @@ pub mod GatherLaws
 pub mod Unique
 pub mod WalkLaws
 pub mod GapLaws
+pub mod PastStays
