@@ -1,14 +1,14 @@
 -- Demand 2: opening what was sealed gives the message back, and nothing else opens; over the definitions, then at the calls.
 -- Assumes nothing.
-use mathlib.Core.Path.{_≡_, sym, ap, _∙_}
+use mathlib.Core.Path.{_≡_, refl, sym, ap, _∙_}
 use mathlib.Core.Bool.{true}
 use mathlib.Core.List.{List, _++_}
 use Prim.Native.Nat.{ℕ, _-_}
 use native.Mathlib.Omega.{arith}
-use lib.ListN.{length, take, take-append-drop}
+use lib.ListN.{length, take, replicate, take-append-drop}
 use lib.Seq.{take-at, drop-at}
 use Rattle.laws.proofs.SameLaws.{same-true, same-refl}
-use Rattle.sponge.specs.Blink.{enc, dec, after, out}
+use Rattle.sponge.specs.Blink.{put, enc, dec, after, out}
 use Rattle.sponge.proofs.Lengths.{length-out}
 use Rattle.sponge.proofs.Trips.{dec-after-enc, dec-out-enc, enc-after-dec, enc-out-dec}
 use Rattle.aead.specs.Sealing.{keyed, sealedFrom, sealed, cipherOf, tagOf, openedFrom, fitsFrom, opened, fits, Sealed, Opened}
@@ -23,6 +23,17 @@ pub record OpensWhatSeals (k n a : List ℕ) : Type 0 where
   -- where seal of p answers 0 and writes t, open of t into any buffer of p's length answers 0 and leaves p
   pub every : {p o t q q′ : List ℕ} {r : ℕ}
       → Sealed k n a p o 0 t → length q ≡ length p → Opened k n a t q r q′ → (r ≡ 0) × (q′ ≡ p)
+
+-- ---- what the paper has: three puts, then enc, and the tag from the state that it leaves
+pub keyed-is-puts : (k n a : List ℕ)
+    → keyed k n a ≡ after put 0x40 (after put 0x20 (after put 0x10 (replicate 64 0) k) n) a
+unfolding keyed
+keyed-is-puts k n a = refl
+
+pub sealed-is-enc : (k n a m : List ℕ)
+    → sealed k n a m ≡ out enc 0x50 (keyed k n a) m ++ take 16 (after enc 0x50 (keyed k n a) m)
+unfolding sealed sealedFrom
+sealed-is-enc k n a m = refl
 
 -- ---- a text's two parts
 parts-join : (t : List ℕ) → cipherOf t ++ tagOf t ≡ t
