@@ -1,24 +1,39 @@
 -- Demand 2: opening what was sealed gives the message back, and nothing else opens; over the definitions, then at the calls.
 -- Assumes nothing.
-use mathlib.Core.Path.{_≡_, sym, ap, _∙_}
+use mathlib.Core.Path.{_≡_, refl, sym, ap, _∙_}
 use mathlib.Core.Bool.{true}
 use mathlib.Core.List.{List, _++_}
-use Prim.Native.Nat.{ℕ, _+_, _-_}
+use Prim.Native.Nat.{ℕ, _-_}
 use native.Mathlib.Omega.{arith}
-use lib.ListN.{length, take, take-append-drop}
+use lib.ListN.{length, take, replicate, take-append-drop}
 use lib.Seq.{take-at, drop-at}
 use Rattle.laws.proofs.SameLaws.{same-true, same-refl}
-use Rattle.sponge.specs.Blink.{enc, dec, after, out}
+use Rattle.sponge.specs.Blink.{put, enc, dec, after, out}
 use Rattle.sponge.proofs.Lengths.{length-out}
 use Rattle.sponge.proofs.Trips.{dec-after-enc, dec-out-enc, enc-after-dec, enc-out-dec}
 use Rattle.aead.specs.Sealing.{keyed, sealedFrom, sealed, cipherOf, tagOf, openedFrom, fitsFrom, opened, fits, Sealed, Opened}
-use Rattle.aead.proofs.Lengths.{Sizes, Limits, length-keyed, length-sealedFrom, length-sealed}
-use Rattle.aead.proofs.Calls.{seal-accepted, open-accepted, open-takes}
+use Rattle.aead.proofs.Lengths.{length-keyed, length-sealedFrom, length-sealed}
+use Rattle.aead.proofs.Calls.{seal-accepted, open-accepted, seal-takes, open-takes}
 
--- t opens exactly if it is the sealing of some p, and it opens to that p
-pub record OpensExactly (k n a t : List ℕ) : Type 0 where
-  pub only : fits k n a t ≡ true → (p : List ℕ) × (t ≡ sealed k n a p)
-  pub every : (p : List ℕ) → t ≡ sealed k n a p → (fits k n a t ≡ true) × (opened k n a t ≡ p)
+-- opening accepts exactly what sealing writes, said of two calls with one key, nonce and associated data
+pub record OpensWhatSeals (k n a : List ℕ) : Type 0 where
+  -- where open of t answers 0 and leaves p, seal of p into any buffer of t's length answers 0 and writes t
+  pub only : {t q p o o′ : List ℕ} {r : ℕ}
+      → Opened k n a t q 0 p → length o ≡ length t → Sealed k n a p o r o′ → (r ≡ 0) × (o′ ≡ t)
+  -- where seal of p answers 0 and writes t, open of t into any buffer of p's length answers 0 and leaves p
+  pub every : {p o t q q′ : List ℕ} {r : ℕ}
+      → Sealed k n a p o 0 t → length q ≡ length p → Opened k n a t q r q′ → (r ≡ 0) × (q′ ≡ p)
+
+-- ---- what the paper has: three puts, then enc, and the tag from the state that it leaves
+pub keyed-is-puts : (k n a : List ℕ)
+    → keyed k n a ≡ after put 0x40 (after put 0x20 (after put 0x10 (replicate 64 0) k) n) a
+unfolding keyed
+keyed-is-puts k n a = refl
+
+pub sealed-is-enc : (k n a m : List ℕ)
+    → sealed k n a m ≡ out enc 0x50 (keyed k n a) m ++ take 16 (after enc 0x50 (keyed k n a) m)
+unfolding sealed sealedFrom
+sealed-is-enc k n a m = refl
 
 -- ---- a text's two parts
 parts-join : (t : List ℕ) → cipherOf t ++ tagOf t ≡ t
@@ -61,38 +76,28 @@ pub opens-only-sealed : (k n a t : List ℕ) → fits k n a t ≡ true → t ≡
 unfolding fits opened sealed
 opens-only-sealed k n a t e = from-only (keyed k n a) t (length-keyed k n a) e
 
--- so t opens exactly if it is the sealing of some p, and then it opens to that p
-pub opens-exactly : (k n a t : List ℕ) → OpensExactly k n a t
-opens-exactly k n a t =
-    record {
-      only = λ e. (opened k n a t, opens-only-sealed k n a t e);
-      every = λ p e.
-          let s = open-seal k n a p in
-          (ap (fits k n a) e ∙ s .0, ap (opened k n a) e ∙ s .1);
-    }
-
 -- two messages have two sealings
 pub seal-injective : (k n a p q : List ℕ) → sealed k n a p ≡ sealed k n a q → p ≡ q
 seal-injective k n a p q e = sym (open-seal k n a p .1) ∙ ap (opened k n a) e ∙ open-seal k n a q .1
 
--- ---- at the calls: a text that an accepting call of open was given is the sealing of what it left
-pub opened-sealed : {k n a t q q′ : List ℕ} → Opened k n a t q 0 q′ → t ≡ sealed k n a q′
-opened-sealed {k} {n} {a} {t} {q} {q′} c =
-    let d = open-accepted c in
-    opens-only-sealed k n a t (d .fit) ∙ ap (sealed k n a) (sym (d .bytes))
+-- ---- at the calls
+module _ {k n a t p : List ℕ} where
+  seals-opened : {q o o′ : List ℕ} {r : ℕ}
+      → Opened k n a t q 0 p → length o ≡ length t → Sealed k n a p o r o′ → (r ≡ 0) × (o′ ≡ t)
+  seals-opened {q = q} d h c =
+      let w = open-accepted d in
+      let e : t ≡ sealed k n a p = opens-only-sealed k n a t (w .fit) ∙ ap (sealed k n a) (sym (w .bytes)) in
+      let l : length p ≡ length q = omega (arith, ap length e, length-sealed k n a p, w .sizes .more16) in
+      let x = seal-takes (rw (h, l) (w .sizes)) (rw l (w .limits)) c in
+      (x .0, x .1 ∙ sym e)
 
--- and what sealing gives for p, sizes and limits kept, is accepted, and p is what is left
-pub sealed-opened : {k n a t q q′ : List ℕ} {r : ℕ} (p : List ℕ) → Sizes k n (length t) (length q) → Limits a (length q) → t ≡ sealed k n a p → Opened k n a t q r q′
-    → (r ≡ 0) × (q′ ≡ p)
-sealed-opened {k} {n} {a} {t} {q} {q′} {r} p s l e c =
-    let x = opens-exactly k n a t .every p e in
-    let d = open-takes s l (x .0) c in
-    (d .0, d .1 ∙ x .1)
+  opens-sealed : {o q q′ : List ℕ} {r : ℕ}
+      → Sealed k n a p o 0 t → length q ≡ length p → Opened k n a t q r q′ → (r ≡ 0) × (q′ ≡ p)
+  opens-sealed {o = o} c h d =
+      let w = seal-accepted c in
+      let l : length t ≡ length o = ap length (w .bytes) ∙ length-sealed k n a p ∙ sym (w .sizes .more16) in
+      let x = open-takes (rw (l, h) (w .sizes)) (rw h (w .limits)) (rw (w .bytes) (open-seal k n a p .0)) d in
+      (x .0, x .1 ∙ ap (opened k n a) (w .bytes) ∙ open-seal k n a p .1)
 
--- seal, then open into a buffer of the message's length
-pub seal-then-open : {k n a p o o′ q q′ : List ℕ} {r : ℕ} → Sealed k n a p o 0 o′ → length q ≡ length p → Opened k n a o′ q r q′ → (r ≡ 0) × (q′ ≡ p)
-seal-then-open {k} {n} {a} {p} {o} {o′} {q} c h d =
-    let w = seal-accepted c in
-    let e : length o′ ≡ length q + 16 = ap length (w .bytes) ∙ length-sealed k n a p ∙ omega arith in
-    sealed-opened p (record { key24 = w .sizes .key24; nonce16 = w .sizes .nonce16; more16 = e })
-    (record { associated-most = w .limits .associated-most; short-most = omega (arith, w .limits .short-most) }) (w .bytes) d
+pub opens-what-seals : (k n a : List ℕ) → OpensWhatSeals k n a
+opens-what-seals k n a = record { only = seals-opened; every = opens-sealed }

@@ -10,7 +10,7 @@ use lib.Dec.{eqb, leb}
 use lib.ListN.{length, take, drop, replicate}
 use lib.Seq.{length-take-le}
 use Rattle.laws.specs.Choose.{pick}
-use Rattle.laws.proofs.ChooseLaws.{both-right}
+use Rattle.laws.proofs.ChooseLaws.{both-left, both-right}
 use Rattle.block.specs.declared.Seen.{Seen}
 use Rattle.block.specs.declared.Seen.the-variants as seen
 use Rattle.block.specs.Content.{Content, shut, more, head, first, mark, eod, bytesOf}
@@ -28,15 +28,15 @@ pub record Judged (o : Content) (s : Seen) (m : List ℕ) : Type 0 where
 nothing : (m : List ℕ) → Judged shut seen.Shut m
 nothing m = record { says = refl; shuts = λ e. refl; keeps = λ n. absurd (n refl) }
 
+pub none-used : (n : ℕ) (m : List ℕ) → length m ≡ 488 → allZero (drop n m) ≡ true → n ≡ 0 → payload [] ≡ m
+none-used n m h z e = payload-back m 0 h (omega arith) (ap (λ (k : ℕ). allZero (drop k m)) (sym e) ∙ z)
+
 module _ (l : Bool) (n : ℕ) (m : List ℕ) (h : length m ≡ 488) (z : allZero (drop n m) ≡ true) where
   a-first : n ≤ 488 → Judged (head (first l (take n m))) (seen.First l n) m
   a-first k = record { says = ap (seen.First l) (length-take-le n m (omega arith)); shuts = λ e. cc; keeps = λ _. payload-back m n h k z }
 
   a-more : n ≤ 488 → Judged (more l (take n m)) (seen.More l n) m
   a-more k = record { says = ap (seen.More l) (length-take-le n m (omega arith)); shuts = λ e. cc; keeps = λ _. payload-back m n h k z }
-
-  none-used : n ≡ 0 → payload [] ≡ m
-  none-used e = payload-back m 0 h (omega arith) (ap (λ (k : ℕ). allZero (drop k m)) (sym e) ∙ z)
 
   judged : (k₁ u k₂ d k₃ k₄ : Bool) → (u ≡ true → n ≤ 488) → (d ≡ true → n ≡ 0)
       → Judged
@@ -47,12 +47,12 @@ module _ (l : Bool) (n : ℕ) (m : List ℕ) (h : length m ≡ 488) (z : allZero
   judged true false k₂ d k₃ k₄ a b = nothing m
   judged false true true d k₃ k₄ a b = a-more (a refl)
   judged false false true d k₃ k₄ a b = nothing m
-  judged false u false true true k₄ a b = record { says = refl; shuts = λ e. refl; keeps = λ _. none-used (b refl) }
-  judged false u false true false true a b = record { says = refl; shuts = λ e. refl; keeps = λ _. none-used (b refl) }
+  judged false u false true true k₄ a b = record { says = refl; shuts = λ e. refl; keeps = λ _. none-used n m h z (b refl) }
+  judged false u false true false true a b = record { says = refl; shuts = λ e. refl; keeps = λ _. none-used n m h z (b refl) }
   judged false u false true false false a b = nothing m
   judged false u false false k₃ k₄ a b = nothing m
 
-used-most : (last used : ℕ) → usedOk last used ≡ true → used ≤ 488
+pub used-most : (last used : ℕ) → usedOk last used ≡ true → used ≤ 488
 unfolding usedOk
 used-most last used = go (eqb last 0) (eqb last 1)
   where
@@ -60,27 +60,35 @@ used-most last used = go (eqb last 0) (eqb last 1)
     go true u e = omega (arith, eqb-true used 488 e)
     go false u e = leb-true used 488 (both-right (leb 1 used) (leb used 488) (both-right u (leb 1 used && leb used 488) e))
 
--- what holds of `shut`, of a record's blocks where the count may be used, and of the two without bytes, holds of what opens
+-- what holds of `shut`, and of each other content where the header says it and what is unused is zero, holds of what opens
 pub content-cases : (P : Content → Type 0) (kind last used : ℕ) (m : List ℕ) → P shut
-    → (usedOk last used ≡ true → P (head (first (eqb last 1) (take used m))) × P (more (eqb last 1) (take used m)))
-    → P (head mark) × P (head eod) → P (contentOf kind last used m)
+    → (allZero (drop used m) ≡ true → usedOk last used ≡ true
+    → (kind ≡ 1 → P (head (first (eqb last 1) (take used m)))) × (kind ≡ 2 → P (more (eqb last 1) (take used m))))
+    → (allZero (drop used m) ≡ true → last ≡ 0 → used ≡ 0 → (kind ≡ 3 → P (head mark)) × (kind ≡ 4 → P (head eod)))
+    → P (contentOf kind last used m)
 unfolding contentOf
-content-cases P kind last used m s =
+content-cases P kind last used m s f g =
     go (allZero (drop used m)) (eqb kind 1) (usedOk last used) (eqb kind 2) (eqb last 0 && eqb used 0) (eqb kind 3) (eqb kind 4)
+    (λ z u. (λ k. f z u .0 (eqb-true kind 1 k), λ k. f z u .1 (eqb-true kind 2 k)))
+    (λ z d.
+    let e = g z (eqb-true last 0 (both-left (eqb last 0) (eqb used 0) d)) (eqb-true used 0 (both-right (eqb last 0) (eqb used 0) d)) in
+    (λ k. e .0 (eqb-true kind 3 k), λ k. e .1 (eqb-true kind 4 k)))
   where
-    go : (t k₁ u k₂ d k₃ k₄ : Bool) → (u ≡ true → P (head (first (eqb last 1) (take used m))) × P (more (eqb last 1) (take used m)))
-        → P (head mark) × P (head eod)
+    go : (t k₁ u k₂ d k₃ k₄ : Bool)
+        → (t ≡ true → u ≡ true
+        → (k₁ ≡ true → P (head (first (eqb last 1) (take used m)))) × (k₂ ≡ true → P (more (eqb last 1) (take used m))))
+        → (t ≡ true → d ≡ true → (k₃ ≡ true → P (head mark)) × (k₄ ≡ true → P (head eod)))
         → P
         (pick t
         (pick k₁ (pick u (head (first (eqb last 1) (take used m))) shut)
         (pick k₂ (pick u (more (eqb last 1) (take used m)) shut) (pick d (pick k₃ (head mark) (pick k₄ (head eod) shut)) shut))) shut)
     go false k₁ u k₂ d k₃ k₄ a b = s
-    go true true true k₂ d k₃ k₄ a b = a refl .0
+    go true true true k₂ d k₃ k₄ a b = a refl refl .0 refl
     go true true false k₂ d k₃ k₄ a b = s
-    go true false true true d k₃ k₄ a b = a refl .1
+    go true false true true d k₃ k₄ a b = a refl refl .1 refl
     go true false false true d k₃ k₄ a b = s
-    go true false u false true true k₄ a b = b .0
-    go true false u false true false true a b = b .1
+    go true false u false true true k₄ a b = b refl refl .0 refl
+    go true false u false true false true a b = b refl refl .1 refl
     go true false u false true false false a b = s
     go true false u false false k₃ k₄ a b = s
 

@@ -7,6 +7,7 @@ pub mod SealLaws
 pub mod OpenLaws
 pub mod RoundTrip
 pub mod OpenedLawful
+pub mod OnlySealed
 pub mod ViewLaws
 pub mod ImageSize
 pub mod ImageLaws

@@ -73,7 +73,8 @@ module _ (last used : ℕ) (m : List ℕ) (h : length m ≡ 488) (g : AllBytes m
 
   content-lawful : (kind p : ℕ) → Shut (contentOf kind last used m) ⊎ Lawful p (contentOf kind last used m)
   content-lawful kind p =
-      content-cases (λ o. Shut o ⊎ Lawful p o) kind last used m (inl tt) (λ e. (inr (used-lawful e), inr (used-lawful e))) (inr tt, inr tt)
+      content-cases (λ o. Shut o ⊎ Lawful p o) kind last used m (inl tt)
+      (λ _ e. (λ _. inr (used-lawful e), λ _. inr (used-lawful e))) (λ _ _ _. (λ _. inr tt, λ _. inr tt))
 
 -- ---- what opens is lawful
 pub opens-lawful : (key : List ℕ) (id recording p : ℕ) (b : List ℕ) → AllBytes key → AllBytes b → length b ≡ 512

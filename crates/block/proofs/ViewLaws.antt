@@ -48,7 +48,8 @@ module _ (last used : ℕ) (m : List ℕ) (h : length m ≡ 488) where
       go false a false b e = let z : _≡_ {A = ℕ} 0 1 = cc in absurd (omega arith)
 
   content-sized : (kind : ℕ) → Sized (contentOf kind last used m)
-  content-sized kind = content-cases Sized kind last used m tt (λ e. (used-sized e, used-sized e)) (tt, tt)
+  content-sized kind =
+      content-cases Sized kind last used m tt (λ _ e. (λ _. used-sized e, λ _. used-sized e)) (λ _ _ _. (λ _. tt, λ _. tt))
 
 block-sized : (key : List ℕ) (id recording p : ℕ) (b : List ℕ) → length b ≡ 512 → Sized (openBlock key id recording p b)
 unfolding openBlock

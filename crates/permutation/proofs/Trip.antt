@@ -1,26 +1,73 @@
--- A call and the call that undoes it leave the state as it was, whatever it is.
+-- A call and the call that undoes it leave the state as it was, whatever it is: permute and permute_back, round and round_back, each
+-- first or last.
 -- Assumes nothing.
 use mathlib.Core.Path.{_≡_, refl, ap, _∙_}
-use mathlib.Core.Bool.{Bool, true, false}
+use mathlib.Core.Bool.{Bool, true, false, _&&_}
 use mathlib.Core.List.{List}
-use Prim.Native.Nat.{ℕ, _<_}
+use Prim.Native.Nat.{ℕ}
 use borrow.Author.Tests.{eqb-true, eq-eqb}
-use lib.ListN.{length, getD}
-use Rattle.permutation.specs.Permutation.{π, π⁻, isState, Permuted}
+use lib.ListN.{length}
+use Rattle.laws.specs.Choose.{pick}
+use Rattle.laws.specs.Lists.{AllBytes}
+use Rattle.laws.proofs.ChooseLaws.{both-left, both-right}
+use Rattle.permutation.specs.Permutation.{π, π⁻, round, round⁻, rounds, rounds⁻, added, isState, Permuted, Rounded}
+use Rattle.permutation.proofs.Build.{length-stateBy}
 use Rattle.permutation.proofs.StateLaws.{Full}
-use Rattle.permutation.proofs.RoundLaws.{π-full, π⁻-π}
+use Rattle.permutation.proofs.RoundLaws.{round⁻-full, round⁻-round, round-round⁻, π⁻-π, π-π⁻}
 
-pub trip : (s t u : List ℕ) (r r′ : ℕ) → ((k : ℕ) → getD s k 0 < 256) → Permuted π s r t → Permuted π⁻ t r′ u → u ≡ s
-unfolding isState
-trip s t u r r′ bytes p q = go (isState s) refl
+-- one call by f, then one by g, which undoes f where both are taken
+undone : (ok : List ℕ → Bool) (f g : List ℕ → List ℕ) {s t u : List ℕ}
+    → (ok s ≡ true → (ok (f s) ≡ true) × (g (f s) ≡ s)) → t ≡ pick (ok s) (f s) s → u ≡ pick (ok t) (g t) t → u ≡ s
+undone ok f g {s} {t} {u} h p q = go (ok s) refl
   where
-    go : (b : Bool) → isState s ≡ b → u ≡ s
-    go true e =
-        let w : Full s = record { long = eqb-true (length s) 64 e; bytes = bytes } in
-        let e₁ : t ≡ π s = p .state ∙ rw e in
-        let e₂ : length t ≡ 64 = ap length e₁ ∙ π-full s w .long in
-        q .state ∙ rw (eq-eqb (length t) 64 e₂) (ap π⁻ e₁ ∙ π⁻-π s w)
-    go false e =
-        let e₁ : t ≡ s = p .state ∙ rw e in
-        let e₂ : isState t ≡ false = ap isState e₁ ∙ e in
-        q .state ∙ rw e₂ e₁
+    go : (b : Bool) → ok s ≡ b → u ≡ s
+    go true e = let e₁ : t ≡ f s = p ∙ rw e in q ∙ rw (e₁, h e .0) (h e .1)
+    go false e = let e₁ : t ≡ s = p ∙ rw e in q ∙ rw (e₁, e)
+
+-- ---- the tests, and the lengths
+full : {s : List ℕ} → AllBytes s → isState s ≡ true → Full s
+unfolding isState
+full {s} b e = record { long = eqb-true (length s) 64 e; bytes = b }
+
+is-state : (s : List ℕ) → length s ≡ 64 → isState s ≡ true
+unfolding isState
+is-state s h = eq-eqb (length s) 64 h
+
+round-state : (key s : List ℕ) → isState (round key s) ≡ true
+unfolding round added
+round-state key s = is-state (round key s) (length-stateBy _)
+
+round⁻-state : (key s : List ℕ) → isState (round⁻ key s) ≡ true
+round⁻-state key s = is-state (round⁻ key s) (round⁻-full key s .long)
+
+π-state : (s : List ℕ) → isState (π s) ≡ true
+unfolding π rounds
+π-state s = round-state _ _
+
+π⁻-state : (s : List ℕ) → isState (π⁻ s) ≡ true
+unfolding π⁻ rounds⁻
+π⁻-state s = round⁻-state _ _
+
+-- ---- the permutation
+module _ {s t u : List ℕ} {r r′ : ℕ} (bytes : AllBytes s) where
+  pub permute-undone : Permuted π s r t → Permuted π⁻ t r′ u → u ≡ s
+  permute-undone p q = undone isState π π⁻ (λ e. (π-state s, π⁻-π s (full bytes e))) (p .state) (q .state)
+
+  pub permute-back-undone : Permuted π⁻ s r t → Permuted π t r′ u → u ≡ s
+  permute-back-undone p q = undone isState π⁻ π (λ e. (π⁻-state s, π-π⁻ s (full bytes e))) (p .state) (q .state)
+
+-- ---- a round with a key of the caller's
+module _ {key s t u : List ℕ} {r r′ : ℕ} (bytes : AllBytes s) where
+  pub round-undone : Rounded round key s r t → Rounded round⁻ key t r′ u → u ≡ s
+  round-undone p q =
+      undone (λ x. isState x && isState key) (round key) (round⁻ key)
+      (λ e. (rw (round-state key s) (both-right (isState s) _ e), round⁻-round key s (full bytes (both-left (isState s) _ e))))
+      (p .state) (q .state)
+
+  pub round-back-undone : AllBytes key → Rounded round⁻ key s r t → Rounded round key t r′ u → u ≡ s
+  round-back-undone bytes-key p q =
+      undone (λ x. isState x && isState key) (round⁻ key) (round key)
+      (λ e.
+      let k = both-right (isState s) (isState key) e in
+      (rw (round⁻-state key s) k, round-round⁻ key s (full bytes-key k) (full bytes (both-left (isState s) _ e))))
+      (p .state) (q .state)

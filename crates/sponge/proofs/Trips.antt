@@ -11,10 +11,11 @@ use lib.Seq.{take-add, take-all, take-append-le, drop-append-le, drop-at}
 use Rattle.laws.proofs.OrderLaws.{lt-or-ge}
 use Rattle.permutation.specs.Permutation.{π}
 use Rattle.laws.specs.Choose.{pick}
-use Rattle.sponge.specs.Blink.{Op, enc, dec, kept, given, padBetween, padClose, group, runs, met, gave, after, out}
-use Rattle.sponge.specs.Ways.{RanAll}
+use Rattle.sponge.specs.Blink.{Op, enc, dec, kept, given, padBetween, padClose, group, runs, met, gave, after, out, Ran}
 use Rattle.sponge.proofs.Groups.{added-masked, masked-masked, splice-masked}
 use Rattle.sponge.proofs.Lengths.{gives, length-given, length-group, runs-same, runs-hold, runs-full, length-met, length-gave, length-out}
+use Rattle.sponge.proofs.Answers.{allowed}
+use Rattle.sponge.proofs.CallLaws.{number-zero, ran-state, ran-bytes}
 
 -- back undoes op on each group
 pub record Undoes (back op : Op) : Type 0 where
@@ -117,14 +118,6 @@ module _ (back op : Op) (u : Undoes back op) (d : ℕ) (v p : List ℕ) (full : 
       ∙ gave-back (runs p) (omega arith)
       ∙ take-all (runs p * 32) p (runs-hold p)
 
-  -- what op gives from v and p, back takes to p, and to the same state
-  pub undone : (v′ c : List ℕ) → RanAll op d p v v′ c → RanAll back d c v v′ p
-  undone v′ c g =
-      record {
-        state = g .state ∙ sym after-back ∙ ap (after back d v) (sym (g .bytes));
-        bytes = sym out-back ∙ ap (out back d v) (sym (g .bytes));
-      }
-
 -- ---- enc and dec
 module _ (d : ℕ) (v : List ℕ) (full : length v ≡ 64) where
   pub dec-after-enc : (p : List ℕ) → after dec d v (out enc d v p) ≡ after enc d v p
@@ -139,6 +132,26 @@ module _ (d : ℕ) (v : List ℕ) (full : length v ≡ 64) where
   pub enc-out-dec : (c : List ℕ) → out enc d v (out dec d v c) ≡ c
   enc-out-dec c = out-back enc dec enc-undoes d v c full
 
-  -- enc gives (v′, c) from (v, p) exactly if dec gives (v′, p) from (v, c)
-  pub enc-exactly-dec : (p v′ c : List ℕ) → (RanAll enc d p v v′ c → RanAll dec d c v v′ p) × (RanAll dec d c v v′ p → RanAll enc d p v v′ c)
-  enc-exactly-dec p v′ c = (undone dec enc dec-undoes d v p full v′ c, undone enc dec enc-undoes d v c full v′ p)
+-- ---- at the calls: op, taken, then back from the same state on what op gave, into a buffer of its length
+ran-back : (back op : Op) → Undoes back op → {d r : ℕ} {v p o v′ c q v″ p′ : List ℕ}
+    → Ran op d p v o 0 v′ c → length q ≡ length c → Ran back d c v q r v″ p′ → (r ≡ 0) × (p′ ≡ p) × (v″ ≡ v′)
+ran-back back op u {d} {r} {v} {p} {o} {v′} {c} {q} x h y =
+    let a = allowed v p o (sym (x .code)) in
+    let e : c ≡ out op d v p = ran-bytes x (a .full) (a .same) (a .few) in
+    let few : length c ≤ 65536 = omega (arith, ap length e, length-out op (u .gives) d v p (a .full), a .few) in (
+      y .code ∙ number-zero v c q (a .full) h few,
+      ran-bytes y (a .full) h few ∙ ap (out back d v) e ∙ out-back back op u d v p (a .full),
+      ran-state y (a .full) h few
+          ∙ ap (after back d v) e
+          ∙ after-back back op u d v p (a .full)
+          ∙ sym (ran-state x (a .full) (a .same) (a .few)),
+    )
+
+module _ {d r : ℕ} {v p o v′ c q v″ : List ℕ} where
+  pub dec-undoes-enc : {p′ : List ℕ}
+      → Ran enc d p v o 0 v′ c → length q ≡ length c → Ran dec d c v q r v″ p′ → (r ≡ 0) × (p′ ≡ p) × (v″ ≡ v′)
+  dec-undoes-enc = ran-back dec enc dec-undoes
+
+  pub enc-undoes-dec : {c′ : List ℕ}
+      → Ran dec d c v o 0 v′ p → length q ≡ length p → Ran enc d p v q r v″ c′ → (r ≡ 0) × (c′ ≡ c) × (v″ ≡ v′)
+  enc-undoes-dec = ran-back enc dec enc-undoes
