@@ -18,7 +18,7 @@ use Rattle.block.specs.Calls.{seenOf}
 use Rattle.reader.specs.Walk.{Told, Answer, gather, between, readAt, isEnd, Visit, visit, walkFrom}
 use Rattle.block.specs.declared.Seen.{Seen}
 use Rattle.survey.specs.declared.Step.{Step}
-use Rattle.survey.specs.Report.{placeOf, counted, tallied}
+use Rattle.survey.specs.Report.{outcomes, placeOf, counted, tallied}
 use Rattle.survey.specs.Steps.{toldBetween, toldInside, passedInside, stepTo, stepBy, Few, countOn, countAnswer}
 use Rattle.reader.proofs.WalkLaws.{walkFrom-over, walkFrom-step}
 
@@ -85,7 +85,7 @@ module _ (v : View) (c p : ℕ) (t : List ℕ) (go : ℕ → List ℕ → List �
         → r ≡ countAnswer a t go
     pub end : told ≡ 2 → counted told t ≡ countAnswer a t go
     pub over : (told ≡ 255 → ⊥) → (told ≡ 2 → ⊥) → go (p + 1) (counted told t) ≡ countAnswer a t go
-    pub few : (told ≡ 255 → ⊥) → told < 6
+    pub few : (told ≡ 255 → ⊥) → told < outcomes
 
   outside : (x : Content) → Outside (toldBetween (seenOf x)) (between x v c p)
   unfolding countAnswer
@@ -118,7 +118,7 @@ module _ (v : View) (end q : ℕ) (t : List ℕ) (go : ℕ → List ℕ → List
     pub on : s .told ≡ 255 → (r : List ℕ) → ((b : List ℕ) → r ≡ countAnswer (gather (end - s .next) v (s .next) b) t go)
         → (b : List ℕ) → r ≡ countAnswer (gather (end - q) v q b) t go
     pub over : (s .told ≡ 255 → ⊥) → (b : List ℕ) → go (s .next) (counted (s .told) t) ≡ countAnswer (gather (end - q) v q b) t go
-    pub few : (s .told ≡ 255 → ⊥) → s .told < 6
+    pub few : (s .told ≡ 255 → ⊥) → s .told < outcomes
     pub passes : s .told ≡ 255 → s .next ≡ q + 1
     pub near : q ≤ s .next
     pub stays : s .next ≤ q + (end - q)

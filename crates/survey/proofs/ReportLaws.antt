@@ -9,7 +9,7 @@ use Rattle.laws.specs.Lists.{listed}
 use Rattle.laws.proofs.ListLaws.{listed-is}
 use Rattle.block.specs.Image.{view, capacityOf}
 use Rattle.reader.specs.Walk.{Visit, walk}
-use Rattle.survey.specs.Report.{placeOf, tallyOf, uncounted, counted, tallied, reportNumber, reportOf}
+use Rattle.survey.specs.Report.{outcomes, placeOf, tallyOf, uncounted, counted, tallied, reportNumber, reportOf}
 use Rattle.survey.specs.Marks.{howMany}
 use Rattle.survey.proofs.CountLaws.{counted-at, tallied-length}
 
@@ -23,9 +23,9 @@ tallied-at (x ∷ w) t k h =
 
 -- where nothing is refused
 pub report-counts : (key : List ℕ) (id recording : ℕ) (image : List ℕ) → reportNumber key image ≡ 0
-    → reportOf key id recording image ≡ tallyOf 0 (listed 0 6 (λ k. howMany k (walk (view key id recording image) (capacityOf image))))
+    → reportOf key id recording image ≡ tallyOf 0 (listed 0 outcomes (λ k. howMany k (walk (view key id recording image) (capacityOf image))))
 unfolding reportOf
 report-counts key id recording image e =
     let w = walk (view key id recording image) (capacityOf image) in
-    rw e (ap (tallyOf 0) (sym (listed-is 6 (λ k. howMany k w) (tallied w uncounted) (tallied-length w uncounted)
-    (λ k h. sym (tallied-at w uncounted k h ∙ omega (arith, getD-replicate {A = ℕ} 6 k 0 0 h))))))
+    rw e (ap (tallyOf 0) (sym (listed-is outcomes (λ k. howMany k w) (tallied w uncounted) (tallied-length w uncounted)
+    (λ k h. sym (tallied-at w uncounted k h ∙ omega (arith, getD-replicate {A = ℕ} outcomes k 0 0 h))))))

@@ -9,6 +9,9 @@ use Rattle.reader.specs.Walk.{Told, Record, Mark, End, Bad, Stray, Cut, Visit, 
 use Rattle.survey.specs.declared.Tally.{Tally}
 
 -- ---- the counts are a list, in the order of the outcomes
+abbrev pub outcomes : ℕ
+outcomes = 6
+
 abbrev pub placeOf : Told → ℕ
 placeOf (Record b) = 0
 placeOf Mark = 1
@@ -30,7 +33,7 @@ tallyOf n t =
     }
 
 abbrev pub uncounted : List ℕ
-uncounted = replicate 6 0
+uncounted = replicate outcomes 0
 
 -- one more at place k
 abbrev pub counted : ℕ → List ℕ → List ℕ

@@ -6,7 +6,7 @@ ghost use lib.ListN.{length};
 ghost use Rattle.block.specs.Calls.{seenOf};
 ghost use Rattle.block.specs.Image.{view};
 ghost use Rattle.reader.specs.Walk.{gather};
-ghost use Rattle.survey.specs.Report.{counted, tallyOf, reportOf};
+ghost use Rattle.survey.specs.Report.{outcomes, counted, tallyOf, reportOf};
 ghost use Rattle.survey.specs.Spacing.{spaceFrom, spacing};
 ghost use Rattle.survey.specs.Steps.{Lent, toldBetween, toldInside, passedInside, stepBy, Few, countOn, countAnswer};
 use numbers::BLOCK_BYTES;
@@ -130,7 +130,7 @@ pub fn space(key: &[u8], id: u32, recording: u64, image: &[u8], p: usize, n: usi
 
 // One more of the counts.
 fn add_one(counts: &mut [usize; OUTCOMES], told: u8)
-    requires { ⌜ (length (now counts) ≡ 6) × (told < 6) × Few (now counts) 256 ⌝ }
+    requires { ⌜ (length (now counts) ≡ outcomes) × (told < outcomes) × Few (now counts) 256 ⌝ }
     ensures { λ _. ⌜ now (counts .exit) ≡ counted told (now (counts .entry)) ⌝ }
 {
     let i = told as usize;
@@ -218,7 +218,7 @@ fn between(
     p: usize,
 )
     requires { ⌜ Lent (now key) (now image) (now scratch) c × (p ≤ c)
-        × (length (now counts) ≡ 6) × Few (now counts) p ⌝ }
+        × (length (now counts) ≡ outcomes) × Few (now counts) p ⌝ }
     ensures { λ _. ⌜ ((f : ℕ) → c - p ≤ f
         → now (counts .exit)
         ≡ countOn f (view (now (key .entry)) id recording (now (image .entry))) c p (now (counts .entry))) ⌝ }
@@ -252,7 +252,7 @@ fn inside(
     q: usize,
 )
     requires { ⌜ Lent (now key) (now image) (now scratch) c × (0 < q) × (q ≤ end) × (end ≤ c)
-        × (length (now counts) ≡ 6) × Few (now counts) (q - 1) ⌝ }
+        × (length (now counts) ≡ outcomes) × Few (now counts) (q - 1) ⌝ }
     ensures { λ _. ⌜ ((f : ℕ) (b : List ℕ) → c - q ≤ f
         → now (counts .exit)
         ≡ countAnswer (gather (end - q) (view (now (key .entry)) id recording (now (image .entry))) q b)
@@ -270,7 +270,7 @@ fn inside(
 }
 
 fn tally_of(number: u8, counts: &[usize; OUTCOMES]) -> Tally
-    requires { ⌜ length (now counts) ≡ 6 ⌝ }
+    requires { ⌜ length (now counts) ≡ outcomes ⌝ }
     ensures { λ r. ⌜ r ≡ tallyOf number (now (counts .entry)) ⌝ }
 {
     Tally {

@@ -8,7 +8,7 @@ use lib.ListN.{length}
 use Rattle.block.specs.Image.{capacityOf, view}
 use Rattle.block.proofs.ImageSize.{image-sized, asked}
 use Rattle.reader.specs.Walk.{walk}
-use Rattle.survey.specs.Report.{tallyOf, uncounted, reportNumber, reportOf}
+use Rattle.survey.specs.Report.{outcomes, tallyOf, uncounted, reportNumber, reportOf}
 use Rattle.survey.specs.Steps.{countOn}
 use Rattle.survey.proofs.CountLaws.{few-none, count-length}
 use Rattle.survey.proofs.report.Statement.{statement}
@@ -34,7 +34,7 @@ between-requires c κs =
     let b = z .blocks in
     let m = z .most in
     let k = a .key24 in
-    (omega arith, omega arith, omega arith, few-none 6 _)
+    (omega arith, omega arith, omega arith, few-none outcomes _)
 
 -- what the walk leaves in the counts
 counts-are : (c : tie.After-between)
