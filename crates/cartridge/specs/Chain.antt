@@ -31,7 +31,7 @@ took (Refused n) closing = []
 
 -- the state and the image at the end of a chain
 abbrev pub chain : List ℕ → WriterState → List ℕ → List Call → Done
-chain key s image [] = record { state = s; reply = Plain; image = image }
+chain key s image [] = record { state = s; reply = Plain; number = 0; image = image }
 chain key s image (x ∷ xs) = chain key (call key s image x .state) (call key s image x .image) xs
 
 -- and the items that were accepted on the way

@@ -6,7 +6,7 @@ use lib.ListN.{length}
 use Rattle.reader.specs.declared.Outcome.{Outcome}
 use Rattle.reader.specs.declared.Outcome.the-variants as o
 use Rattle.reader.specs.declared.Got.{Got}
-use Rattle.reader.specs.Reading.{outcomeNumber, readGives, readLeaves, partOf, lookPart, lookPlace}
+use Rattle.reader.specs.Reading.{outcomeNumber, outcomeValue, readGives, readLeaves, partOf, lookPart, lookPlace}
 use Rattle.notchbadger.specs.declared.reading.NbGot.{NbGot}
 use Rattle.notchbadger.specs.declared.reading.NbPart.{NbPart}
 
@@ -20,22 +20,12 @@ outcomeCode o.Stray = 4
 outcomeCode (o.Cut q) = 5
 outcomeCode (o.Refused n) = 6
 
--- a record's length, a cut's place
-abbrev pub dataOf : Outcome → ℕ
-dataOf (o.Record n) = n
-dataOf o.Mark = 0
-dataOf o.End = 0
-dataOf o.Bad = 0
-dataOf o.Stray = 0
-dataOf (o.Cut q) = q
-dataOf (o.Refused n) = 0
-
 abbrev pub flatGot : Got → NbGot
 flatGot g =
     record {
       outcome = outcomeCode (g .outcome);
       number = outcomeNumber (g .outcome);
-      «data» = dataOf (g .outcome);
+      «data» = outcomeValue (g .outcome);
       next = g .next;
     }
 

@@ -1,4 +1,6 @@
 -- The answers of spacing and of the report as numbers.
+use Prim.Native.Nat.{ℕ}
+use Rattle.survey.specs.Spacing.{spacedNumber, spacedMarks, spacedPlace}
 use Rattle.survey.specs.declared.Spaced.{Spaced}
 use Rattle.survey.specs.declared.Spaced.the-variants as s
 use Rattle.survey.specs.declared.Tally.{Tally}
@@ -6,10 +8,13 @@ use Rattle.notchbadger.specs.declared.surveying.NbSpaced.{NbSpaced}
 use Rattle.notchbadger.specs.declared.surveying.NbTally.{NbTally}
 
 -- 0 at, 1 short, 2 refused
+abbrev pub spacedCode : Spaced → ℕ
+spacedCode (s.At p) = 0
+spacedCode (s.Short m p) = 1
+spacedCode (s.Refused n p) = 2
+
 abbrev pub flatSpaced : Spaced → NbSpaced
-flatSpaced (s.At p) = record { kind = 0; number = 0; position = p; marks = 0 }
-flatSpaced (s.Short m p) = record { kind = 1; number = 0; position = p; marks = m }
-flatSpaced (s.Refused n p) = record { kind = 2; number = n; position = p; marks = 0 }
+flatSpaced x = record { kind = spacedCode x; number = spacedNumber x; position = spacedPlace x; marks = spacedMarks x }
 
 abbrev pub flatTally : Tally → NbTally
 flatTally t =

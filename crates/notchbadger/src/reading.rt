@@ -1,7 +1,7 @@
 // The reader. A returned part can't cross: its place and length do.
 ghost use mathlib.Core.Path.{_≡_};
-ghost use Rattle.reader.specs.Reading.{outcomeNumber, lookNumber};
-ghost use Rattle.notchbadger.specs.FlatReader.{outcomeCode, dataOf, flatGot, FlatRead, recordPlace, lookedAt};
+ghost use Rattle.reader.specs.Reading.{outcomeNumber, outcomeValue, lookNumber};
+ghost use Rattle.notchbadger.specs.FlatReader.{outcomeCode, flatGot, FlatRead, recordPlace, lookedAt};
 use numbers::BLOCK_BYTES;
 use numbers::DONE;
 use reader::Got;
@@ -66,7 +66,7 @@ fn outcome_number(outcome: Outcome) -> u8
 }
 
 fn outcome_data(outcome: Outcome) -> usize
-    ensures { λ r. ⌜ r ≡ dataOf outcome ⌝ }
+    ensures { λ r. ⌜ r ≡ outcomeValue outcome ⌝ }
 {
     match outcome {
         Outcome::Record(n) => n,

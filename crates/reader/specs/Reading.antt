@@ -30,6 +30,16 @@ outcomeNumber o.Stray = 0
 outcomeNumber (o.Cut q) = 0
 outcomeNumber (o.Refused n) = n
 
+-- its value: a record's length, a cut's place
+abbrev pub outcomeValue : Outcome → ℕ
+outcomeValue (o.Record n) = n
+outcomeValue o.Mark = 0
+outcomeValue o.End = 0
+outcomeValue o.Bad = 0
+outcomeValue o.Stray = 0
+outcomeValue (o.Cut q) = q
+outcomeValue (o.Refused n) = 0
+
 -- the bytes handed out: a record's
 abbrev pub recordOf : Told → List ℕ
 recordOf (Record b) = b
@@ -65,6 +75,7 @@ readLeaves key id recording image p buffer =
 
 pub record Read (key : List ℕ) (id recording : ℕ) (image : List ℕ) (p : ℕ) (buffer : List ℕ) (r : Got) (buffer′ : List ℕ) : Type 0 where
   pub says : r ≡ readGives key id recording image p (length buffer)
+  pub number : outcomeNumber (r .outcome) ≡ readNumber key image p (length buffer)
   pub leaves : buffer′ ≡ readLeaves key id recording image p buffer
 
 -- ---- the record's part: the front part of the lent buffer; a length beyond it gives the empty part

@@ -11,7 +11,7 @@ use Rattle.survey.proofs.report.Kinds as report-kinds
 
 pub space-unique : (κs : Lfts 2) (a : Dens κs spacing-kinds.ps) (r₁ r₂ : resT spacing-kinds.r κs .Denot) (s₁ s₂ : AtExit (endedOf 2 spacing-kinds.ps spacing-kinds.r) κs)
     → spacing.Post κs a r₁ s₁ → spacing.Post κs a r₂ s₂ → r₁ ≡ r₂
-space-unique κs a r₁ r₂ s₁ s₂ p q = p ∙ sym q
+space-unique κs a r₁ r₂ s₁ s₂ p q = p .says ∙ sym (q .says)
 
 pub report-unique : (κs : Lfts 2) (a : Dens κs report-kinds.ps) (r₁ r₂ : resT report-kinds.r κs .Denot) (s₁ s₂ : AtExit (endedOf 2 report-kinds.ps report-kinds.r) κs)
     → report.Post κs a r₁ s₁ → report.Post κs a r₂ s₂ → r₁ ≡ r₂

@@ -7,7 +7,7 @@ ghost use Rattle.block.specs.Calls.{seenOf};
 ghost use Rattle.block.specs.Image.{view};
 ghost use Rattle.reader.specs.Walk.{gather};
 ghost use Rattle.survey.specs.Report.{outcomes, counted, tallyOf, reportOf};
-ghost use Rattle.survey.specs.Spacing.{spaceFrom, spacing};
+ghost use Rattle.survey.specs.Spacing.{spaceFrom, SpacedOver};
 ghost use Rattle.survey.specs.Steps.{Lent, toldBetween, toldInside, passedInside, stepBy, Few, countOn, countAnswer};
 use numbers::BLOCK_BYTES;
 use numbers::BLOCK_PAYLOAD;
@@ -114,7 +114,7 @@ fn space_on(
 // Spacing over n marks from p on: the place after the nth, or how many there were and the place of End (or the capacity).
 // Refused, it gives its number and p.
 pub fn space(key: &[u8], id: u32, recording: u64, image: &[u8], p: usize, n: usize) -> Spaced
-    ensures { λ r. ⌜ r ≡ spacing (now (key .entry)) id recording (now (image .entry)) p n ⌝ }
+    ensures { λ r. ⌜ SpacedOver (now (key .entry)) id recording (now (image .entry)) p n r ⌝ }
 {
     let number = block::image_then_key(key, image);
     if number != DONE {

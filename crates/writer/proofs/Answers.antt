@@ -15,20 +15,25 @@ use Rattle.writer.specs.Writing.{itemNumber, closeNumber, Done, stay, ju
 use Rattle.writer.proofs.Judged.{judged-refused}
 
 did-as : {d e : Done} {r : Wrote} {image′ : List ℕ} → d ≡ e → Did e r image′ → Did d r image′
-did-as q p = record { says = p .says ∙ ap wroteOf (sym q); leaves = p .leaves ∙ ap (λ (x : Done). x .image) (sym q) }
+did-as q p =
+    record {
+      says = p .says ∙ ap wroteOf (sym q);
+      number = p .number ∙ ap (λ (x : Done). x .number) (sym q);
+      leaves = p .leaves ∙ ap (λ (x : Done). x .image) (sym q);
+    }
 
 module _ (s : WriterState) (key image : List ℕ) where
   pub write-refused : (i : Item) {n : ℕ} → n ≡ itemNumber s key image i → (n ≡ 0 → ⊥) → Did (write s key image i) (record { state = s; reply = Refused n }) image
   unfolding write
   write-refused i {n} e h =
       let d = taken s key image i in
-      did-as {e = stay s image n} (ap (judged d s image) (sym e) ∙ judged-refused d s image n h) (record { says = refl; leaves = refl })
+      did-as {e = stay s image n} (ap (judged d s image) (sym e) ∙ judged-refused d s image n h) (record { says = refl; number = refl; leaves = refl })
 
   pub close-refused : {n : ℕ} → n ≡ closeNumber s key image → (n ≡ 0 → ⊥) → Did (close s key image) (record { state = s; reply = Refused n }) image
   unfolding close
   close-refused {n} e h =
       let d = ended s key image in
-      did-as {e = stay s image n} (ap (judged d s image) (sym e) ∙ judged-refused d s image n h) (record { says = refl; leaves = refl })
+      did-as {e = stay s image n} (ap (judged d s image) (sym e) ∙ judged-refused d s image n h) (record { says = refl; number = refl; leaves = refl })
 
   pub write-taken : (i : Item) {r : Wrote} {image′ : List ℕ} → itemNumber s key image i ≡ 0 → Did (taken s key image i) r image′ → Did (write s key image i) r image′
   unfolding write

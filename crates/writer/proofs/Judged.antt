@@ -11,6 +11,10 @@ module _ (d : Done) (s : WriterState) (image : List ℕ) where
   judged-refused zero h = absurd (h refl)
   judged-refused (suc n) h = refl
 
+  pub judged-says : replyNumber (d .reply) ≡ d .number → (n : ℕ) → replyNumber (judged d s image n .reply) ≡ judged d s image n .number
+  judged-says z zero = z
+  judged-says z (suc n) = refl
+
   -- the number in the answer is the one that it is judged by
   pub judged-number : replyNumber (d .reply) ≡ 0 → (n : ℕ) → replyNumber (judged d s image n .reply) ≡ n
   judged-number z zero = z

@@ -17,7 +17,7 @@ use Rattle.writer.specs.declared.Reply.the-variants.{Plain, Warned, Refu
 use Rattle.writer.specs.Items.{Item, rec, fmark, size}
 use Rattle.writer.specs.Writing.{replyNumber, zoneOk, placeOk, lawful, lengthOk, room, startNumber, itemNumber, closeNumber}
 use Rattle.writer.specs.Writing.{Done, stay, judged, moved, warns, refusedState, started, taken, ended, start, write, close}
-use Rattle.writer.proofs.Judged.{judged-number}
+use Rattle.writer.proofs.Judged.{judged-number, judged-says}
 use Rattle.writer.proofs.Ready.{Ready, facts, StateLawful, lawfully, lawful-holds, call-asks, close-ready, item-asks, item-fits}
 
 -- ---- the number in the answer is that of the first cause, and 0 says that the call was taken
@@ -40,6 +40,15 @@ close-number s key image = judged-number (ended s key image) s image refl (close
 pub start-number : (id recording e : ℕ) (image : List ℕ) → replyNumber (start id recording e image .reply) ≡ startNumber image e
 unfolding start
 start-number id recording e image = judged-number (started id recording e image) refusedState _ refl (startNumber image e)
+
+-- the number that a call gives is the one in its answer
+pub write-says : (s : WriterState) (key image : List ℕ) (i : Item) → replyNumber (write s key image i .reply) ≡ write s key image i .number
+unfolding write
+write-says s key image i = judged-says (taken s key image i) s image (warns-0 s i (s .position + size i)) (itemNumber s key image i)
+
+pub close-says : (s : WriterState) (key image : List ℕ) → replyNumber (close s key image .reply) ≡ close s key image .number
+unfolding close
+close-says s key image = judged-says (ended s key image) s image refl (closeNumber s key image)
 
 -- ---- what a call is, by its number
 pub write-when : (s : WriterState) (key image : List ℕ) (i : Item) (n : ℕ) → replyNumber (write s key image i .reply) ≡ n

@@ -56,15 +56,16 @@ itemNumber s key image i = callNumber s key image (firstOf (lengthOk i) 4 (first
 unfoldable pub closeNumber : WriterState → List ℕ → List ℕ → ℕ
 closeNumber s key image = callNumber s key image 0
 
--- ---- what a call gives: the next state, the answer, and the image that it leaves
+-- ---- what a call gives: the next state, the answer and its number, and the image that it leaves
 pub record Done : Type 0 where
   pub state : WriterState
   pub reply : Reply
+  pub number : ℕ
   pub image : List ℕ
 
 -- refused by the number n, which is not 0
 abbrev pub stay : WriterState → List ℕ → ℕ → Done
-stay s image n = record { state = s; reply = Refused n; image = image }
+stay s image n = record { state = s; reply = Refused n; number = n; image = image }
 
 -- d where no cause refuses; else s and the image stay
 abbrev pub judged : Done → WriterState → List ℕ → ℕ → Done
@@ -88,6 +89,7 @@ started id recording e image =
     record {
       state = record { id = id; recording = recording; capacity = capacityOf image; zone = e; position = 0; closed = false };
       reply = Plain;
+      number = 0;
       image = replicate (length image) 0;
     }
 
@@ -96,6 +98,7 @@ taken s key image i =
     record {
       state = moved s (s .position + size i) false;
       reply = warns s i (s .position + size i);
+      number = 0;
       image = lay key (s .id) (s .recording) image (s .position) (blocks i);
     }
 
@@ -104,6 +107,7 @@ ended s key image =
     record {
       state = moved s (s .position + 1) true;
       reply = Plain;
+      number = 0;
       image = lay key (s .id) (s .recording) image (s .position) (head eod ∷ []);
     }
 
@@ -123,4 +127,5 @@ wroteOf d = record { state = d .state; reply = d .reply }
 
 pub record Did (d : Done) (r : Wrote) (image′ : List ℕ) : Type 0 where
   pub says : r ≡ wroteOf d
+  pub number : replyNumber (r .reply) ≡ d .number
   pub leaves : image′ ≡ d .image

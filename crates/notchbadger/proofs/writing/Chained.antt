@@ -8,8 +8,9 @@ use lib.Dec.{eqb, leb}
 use Rattle.block.specs.Content.{flag}
 use Rattle.writer.specs.declared.WriterState.{WriterState}
 use Rattle.writer.specs.declared.Wrote.{Wrote}
-use Rattle.writer.specs.Writing.{Done, wroteOf}
-use Rattle.cartridge.specs.Chain.{Call, call}
+use Rattle.writer.specs.Writing.{replyNumber, wroteOf}
+use Rattle.writer.proofs.Rules.{write-says, close-says}
+use Rattle.cartridge.specs.Chain.{Call, item, closing, call}
 use Rattle.cartridge.specs.ByCalls as by-calls
 use Rattle.cartridge.specs.ByCalls.{Writes}
 use Rattle.notchbadger.specs.declared.writing.NbState.{NbState}
@@ -38,6 +39,10 @@ answers s key image x {r} {image′} e c =
     let g = subst (λ (t : WriterState). FlatDid (flatState s) key image (call key t image x) r image′) (crosses-back s) f in
     (g .says ∙ rw (flag-small (s .closed)), g .leaves ∙ rw (flag-small (s .closed)))
 
+call-number : (key : List ℕ) (s : WriterState) (image : List ℕ) (x : Call) → replyNumber (call key s image x .reply) ≡ call key s image x .number
+call-number key s image (item i) = write-says s key image i
+call-number key s image closing = close-says s key image
+
 -- the chain of calls that a chain of `nb_` calls is
 pub record AsWritten (key : List ℕ) (s : WriterState) (image : List ℕ) (xs : List Call) (rs : List NbWrote) (n″ : NbState) (image″ : List ℕ)
     : Type 0 where
@@ -57,7 +62,7 @@ nb-chain {key} {n} {n″} {image} {image″} s e (next {image′ = image′} {x 
     record {
       ws = wroteOf d ∷ i .ws;
       s″ = i .s″;
-      writes = by-calls.next (record { says = refl; leaves = a .1 }) (i .writes);
+      writes = by-calls.next (record { says = refl; number = call-number key s image x; leaves = a .1 }) (i .writes);
       says = ap₂ (λ (y : NbWrote) (ys : List NbWrote). y ∷ ys) (a .0) (i .says);
       ends = i .ends;
     }

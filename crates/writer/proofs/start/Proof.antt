@@ -13,7 +13,7 @@ is-image-requires c κs = search needs
 
 returns : tie.Need-returns
 unfolding start startNumber imageOk
-returns c = let e = failed (c .before .is-image .ensures) (c .if1 .taken) in record { says = rw e; leaves = rw e }
+returns c = let e = failed (c .before .is-image .ensures) (c .if1 .taken) in record { says = rw e; number = rw e; leaves = rw e }
 
 is-zone-requires : tie.Need-is-zone-requires
 is-zone-requires c κs = search needs
@@ -23,7 +23,7 @@ unfolding start startNumber imageOk capacityOf
 returns-2 c =
     let e = passed (c .before .before .before .is-image .ensures) (c .before .before .if1 .left) in
     let f = failed (c .before .is-zone .ensures) (c .if2 .taken) in
-    record { says = rw (e, f); leaves = rw (e, f) }
+    record { says = rw (e, f); number = rw (e, f); leaves = rw (e, f) }
 
 zero-requires : tie.Need-zero-requires
 zero-requires c κs = search needs
@@ -37,7 +37,7 @@ returns-3 c =
     let z = c .before .before .before .before in
     let e = passed (z .before .before .before .is-image .ensures) (z .before .before .if1 .left) in
     let f = passed (z .before .is-zone .ensures) (z .if2 .left) in
-    record { says = rw (e, f); leaves = c .before .before .zero .ensures ∙ rw (e, f) }
+    record { says = rw (e, f); number = rw (e, f); leaves = c .before .before .zero .ensures ∙ rw (e, f) }
 
 pub start-spec : {M : Type 1} → statement M
 start-spec =

@@ -13,7 +13,7 @@ flat-spaced-requires : tie.Need-flat-spaced-requires
 flat-spaced-requires c κs = search needs
 
 returns : tie.Need-returns
-returns c = c .flat-spaced .ensures ∙ ap flatSpaced (c .before .space .ensures)
+returns c = c .flat-spaced .ensures ∙ ap flatSpaced (c .before .space .ensures .says)
 
 pub nb-space-spec : {M : Type 1} → statement M
 nb-space-spec = tie.close (tie.spec space-requires flat-spaced-requires returns)

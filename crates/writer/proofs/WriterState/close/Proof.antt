@@ -36,7 +36,7 @@ returns-2 : tie.Need-returns-2
 unfolding lay sealBlock
 returns-2 c =
     let e = c .before .before .before .before in
-    close-taken _ _ _ (sym (e .before .call-number .ensures) ∙ e .if1 .left) (record { says = refl; leaves = c .before .before .lay-empty .ensures })
+    close-taken _ _ _ (sym (e .before .call-number .ensures) ∙ e .if1 .left) (record { says = refl; number = refl; leaves = c .before .before .lay-empty .ensures })
 
 pub close-spec : {M : Type 1} → statement M
 close-spec =

@@ -3,7 +3,7 @@
 use borrow.Author.Needs.{needs}
 use borrow.Author.Tests.{lt-ltb, le-ltb}
 use mathlib.Core.Bool.{Bool}
-use mathlib.Core.Path.{sym, ap, _∙_}
+use mathlib.Core.Path.{refl, sym, ap, _∙_}
 use Prim.Native.Nat.{_+_, _≤_, _<_}
 use native.Mathlib.Omega.{arith}
 use Rattle.block.specs.Format.{sealBlock}
@@ -63,6 +63,7 @@ returns-3 c =
     write-taken _ _ _ fmark (item-asks r fmark ∙ simp (lt-ltb _ _ h))
     (record {
       says = ap (λ (b : Bool). record { state = moved s (s .position + 1) b; reply = Plain }) (r .is-open);
+      number = refl;
       leaves = c .before .before .lay-empty .ensures;
     })
 

@@ -1,7 +1,7 @@
 -- `writer::WriterState::record` meets its contract: refused, or its blocks laid, warned or not.
 -- Assumes nothing.
 use borrow.Author.Tests.{lt-ltb, le-ltb}
-use mathlib.Core.Path.{sym, _∙_}
+use mathlib.Core.Path.{refl, sym, _∙_}
 use Prim.Native.Nat.{_+_, _-_, _≤_, _<_}
 use native.Mathlib.Omega.{arith}
 use Rattle.writer.specs.Items.{rec}
@@ -68,6 +68,7 @@ returns-2 c =
     write-taken _ _ _ (rec _) (sym (e .before .record-number .ensures) ∙ e .if1 .left)
     (record {
       says = record-said (a .self) (a .bytes .now) _ (o .before .before .blocks-for .ensures .0) (fits e .ready .is-open) (lt-ltb _ _ h);
+      number = refl;
       leaves = o .lay-record .ensures;
     })
 
@@ -83,6 +84,7 @@ returns-3 c =
     write-taken _ _ _ (rec _) (sym (e .before .record-number .ensures) ∙ e .if1 .left)
     (record {
       says = record-said (a .self) (a .bytes .now) _ (o .before .before .blocks-for .ensures .0) (fits e .ready .is-open) (le-ltb _ _ h);
+      number = refl;
       leaves = o .lay-record .ensures;
     })
 
