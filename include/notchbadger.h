@@ -21,6 +21,10 @@
  * NB_DONE when it was carried out, else the first cause in the order given at
  * the call. A refused call (any cause but 7) leaves all lent memory as it was.
  * 7 leaves the receiving buffer all zero.
+ *
+ * The library keeps nothing between calls. A call takes at most 64 KiB of
+ * stack, whatever the image (measured, not proved), so that a thread with a
+ * small stack can make it.
  */
 #ifndef NOTCHBADGER_H
 #define NOTCHBADGER_H

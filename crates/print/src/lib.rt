@@ -1,5 +1,7 @@
 // What the programs share: text, numbers and a writer's reply on standard output, and a decimal number as it stands in an argument.
-ghost use Rattle.print.specs.Parsing.{Within};
+ghost use mathlib.Core.Path.{_≡_};
+ghost use Prim.Native.Nat.{_<_};
+ghost use Rattle.print.specs.Parsing.{digitBehind, spelledWith, spelled, Within};
 use libc::STDOUT_FILENO;
 use writer::Reply;
 
@@ -70,7 +72,8 @@ pub enum Parsed {
 
 // Any number of digits, one at least; zeros in front count for nothing.
 pub fn parse(text: &[u8], most: u64) -> Parsed
-    ensures { λ r. ⌜ Within most r ⌝ }
+    ensures says { λ r. ⌜ r ≡ spelled most (now (text .entry)) ⌝ }
+    ensures within { λ r. ⌜ Within most r ⌝ }
 {
     if text.len() == 0 {
         return Parsed::Not;
@@ -86,7 +89,8 @@ pub fn parse(text: &[u8], most: u64) -> Parsed
 
 // What is spelled with c behind it.
 fn longer(parsed: Parsed, c: u8, most: u64) -> Parsed
-    ensures { λ r. ⌜ Within most r ⌝ }
+    ensures says { λ r. ⌜ r ≡ spelledWith most parsed c ⌝ }
+    ensures within { λ r. ⌜ Within most r ⌝ }
 {
     if c < 48 {
         return Parsed::Not;
@@ -101,13 +105,16 @@ fn longer(parsed: Parsed, c: u8, most: u64) -> Parsed
     }
 }
 
-fn wide(x: u8) -> u64 {
+fn wide(x: u8) -> u64
+    ensures { λ r. ⌜ (r ≡ x) × (r < 256) ⌝ }
+{
     x as u64
 }
 
 // 10 n + d, where that is not above `most`.
 fn grown(n: u64, digit: u8, most: u64) -> Parsed
-    ensures { λ r. ⌜ Within most r ⌝ }
+    ensures says { λ r. ⌜ r ≡ digitBehind most n digit ⌝ }
+    ensures within { λ r. ⌜ Within most r ⌝ }
 {
     let d = wide(digit);
     if most / 10 < n {

@@ -36,7 +36,7 @@ enum-told-2 : tie.Need-enum-told-2
 enum-told-2 c = search needs
 
 returns : tie.Need-returns
-returns c = omega (arith, rw (c .before .n .given .1) at (c .before .before .before .parse .ensures))
+returns c = omega (arith, rw (c .before .n .given .1) at (c .before .before .before .parse .ensures .1))
 
 returns-2 : tie.Need-returns-2
 returns-2 c = omega arith

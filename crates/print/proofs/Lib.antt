@@ -1,0 +1,2 @@
+-- What is true of what the programs share.
+pub mod Unique
