@@ -35,7 +35,8 @@ sealBlockNumber key k b part = firstOf (keyOk key && (leb 512 (length part) && f
 
 pub record SealedAt (key : List ℕ) (id recording p : ℕ) (k : Kind) (b part : List ℕ) (r : ℕ) (part′ : List ℕ) : Type 0 where
   pub code : r ≡ sealBlockNumber key k b part
-  pub bytes : part′ ≡ pick (eqb (sealBlockNumber key k b part) 0) (splice part 0 (sealBlock key id recording p (contentFor k b))) part
+  pub bytes : part′ ≡ pick (eqb (sealBlockNumber key k b part) 0)
+      (splice part 0 (sealBlock key id recording p (contentFor k b))) part
 
 -- ---- opening the block at the front of a part. What opens, as the code says it: byte 5 and the count of bytes used
 abbrev pub seenOf : Content → Seen
@@ -60,5 +61,7 @@ openBlockNumber key part out = firstOf (keyOk key && (leb 512 (length part) && e
 
 pub record OpenedAt (key : List ℕ) (id recording p : ℕ) (part out : List ℕ) (r : Seen) (out′ : List ℕ) : Type 0 where
   pub code : seenNumber r ≡ openBlockNumber key part out
-  pub says : r ≡ pick (eqb (openBlockNumber key part out) 0) (seenOf (openBlock key id recording p (take 512 part))) (seen.Refused (openBlockNumber key part out))
-  pub bytes : out′ ≡ pick (eqb (openBlockNumber key part out) 0) (payload (bytesOf (openBlock key id recording p (take 512 part)))) out
+  pub says : r ≡ pick (eqb (openBlockNumber key part out) 0)
+      (seenOf (openBlock key id recording p (take 512 part))) (seen.Refused (openBlockNumber key part out))
+  pub bytes : out′ ≡ pick (eqb (openBlockNumber key part out) 0)
+      (payload (bytesOf (openBlock key id recording p (take 512 part)))) out

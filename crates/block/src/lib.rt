@@ -307,7 +307,7 @@ pub fn open_block(key: &[u8], id: u32, recording: u64, p: u32, part: &[u8], out:
         (now (out .exit)) ⌝ }
 {
     if key.len() != KEY_BYTES {
-        return Seen::Refused(WRONG_LENGTH);
+        return Seen::Refused(WRONG_LENGTH); // the key
     }
     if part.len() < BLOCK_BYTES {
         return Seen::Refused(WRONG_LENGTH);
