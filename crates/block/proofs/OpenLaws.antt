@@ -16,9 +16,9 @@ use Rattle.aead.proofs.Lengths.{key-ok, Sizes, Limits, sized-holds, limited-hol
 use Rattle.aead.proofs.Calls.{open-takes}
 use Rattle.block.specs.declared.Seen.{Seen}
 use Rattle.block.specs.declared.Seen.the-variants as seen
-use Rattle.block.specs.Content.{Content, shut, bytesOf}
+use Rattle.block.specs.Content.{Content, shut, more, head, first, mark, eod, bytesOf}
 use Rattle.block.specs.Format.{nonceAt, number4, number2, payload, contentOf, openBlock}
-use Rattle.block.specs.Calls.{seenOf, openable, OpenedAt}
+use Rattle.block.specs.Calls.{seenOf, seenNumber, openBlockNumber, OpenedAt}
 use Rattle.block.proofs.NumberLaws.{length-nonce}
 use Rattle.block.proofs.ContentLaws.{zeros-left}
 
@@ -92,17 +92,24 @@ module _ (key : List ℕ) (id recording p : ℕ) (part : List ℕ) where
 
 -- ---- the call's answers
 module _ {key : List ℕ} {id recording p : ℕ} {part out : List ℕ} where
-  pub open-stays : openable key part out ≡ false → OpenedAt key id recording p part out seen.Shut out
-  open-stays e = record { says = rw e; bytes = rw e }
+  pub open-stays : openBlockNumber key part out ≡ 2 → OpenedAt key id recording p part out (seen.Refused 2) out
+  open-stays e = record { code = sym e; says = rw e; bytes = rw e }
+
+seen-0 : (o : Content) → seenNumber (seenOf o) ≡ 0
+seen-0 shut = refl
+seen-0 (more l b) = refl
+seen-0 (head (first l b)) = refl
+seen-0 (head mark) = refl
+seen-0 (head eod) = refl
 
 module _ (key part out : List ℕ) (hk : length key ≡ 24) (hp : 512 ≤ length part) (ho : length out ≡ 488) where
-  pub may-open : openable key part out ≡ true
-  unfolding openable
+  pub may-open : openBlockNumber key part out ≡ 0
+  unfolding openBlockNumber
   may-open = rw (key-ok key hk, le-leb 512 (length part) hp, eq-eqb (length out) 488 ho)
 
   pub open-answers : {id recording p : ℕ} (o : Content) {r : Seen} {out′ : List ℕ} → openBlock key id recording p (take 512 part) ≡ o → r ≡ seenOf o → out′ ≡ payload (bytesOf o)
       → OpenedAt key id recording p part out r out′
-  open-answers o e f g = record { says = f ∙ rw (may-open, e); bytes = g ∙ rw (may-open, e) }
+  open-answers o e f g = record { code = ap seenNumber f ∙ seen-0 o ∙ sym may-open; says = f ∙ rw (may-open, e); bytes = g ∙ rw (may-open, e) }
 
   pub open-shuts : {id recording p : ℕ} {out′ : List ℕ} → openBlock key id recording p (take 512 part) ≡ shut → out′ ≡ replicate (length out) 0
       → OpenedAt key id recording p part out seen.Shut out′

@@ -24,7 +24,7 @@ pub image-then-key-unique : (κs : Lfts 2) (a : Dens κs asking-kinds.ps) (r₁ 
 image-then-key-unique κs a r₁ r₂ s₁ s₂ p q = p ∙ sym q
 
 pub seal-block-unique : (κs : Lfts 3) (a : Dens κs sealing-kinds.ps) (r₁ r₂ : resT sealing-kinds.r κs .Denot) (s₁ s₂ : AtExit (endedOf 3 sealing-kinds.ps sealing-kinds.r) κs)
-    → sealing.Post κs a r₁ s₁ → sealing.Post κs a r₂ s₂ → (r₁ ≡ r₂) × (now (s₁ .1 .1 .1 .1 .1 .1 .1 .0) ≡ now (s₂ .1 .1 .1 .1 .1 .1 .1 .0))
+    → sealing.Post κs a r₁ s₁ → sealing.Post κs a r₂ s₂ → (r₁ ≡ r₂) × (now (s₁ .1 .1 .1 .1 .1 .1 .0) ≡ now (s₂ .1 .1 .1 .1 .1 .1 .0))
 seal-block-unique κs a r₁ r₂ s₁ s₂ p q = (p .code ∙ sym (q .code), p .bytes ∙ sym (q .bytes))
 
 pub open-block-unique : (κs : Lfts 3) (a : Dens κs opening-kinds.ps) (r₁ r₂ : resT opening-kinds.r κs .Denot) (s₁ s₂ : AtExit (endedOf 3 opening-kinds.ps opening-kinds.r) κs)

@@ -1,14 +1,14 @@
 // One block of a cartridge at its place: sealed at the front of a lent part, opened straight into a lent buffer.
 ghost use mathlib.Core.Path.{_≡_};
-ghost use mathlib.Core.List.{_++_};
+ghost use mathlib.Core.List.{[], _++_};
 ghost use Prim.Native.Nat.{_≤_, _<_};
 ghost use lib.ListN.{length, drop};
 ghost use Rattle.laws.specs.Lists.{splice};
 ghost use Rattle.aead.specs.Sealing.{sealed};
-ghost use Rattle.block.specs.Content.{flag, bytesOf};
+ghost use Rattle.block.specs.Content.{flag, kindOf, lastOf, bytesOf};
 ghost use Rattle.block.specs.Format.{nonceAt, header, payload, number4, number2, allZero, usedOk, contentOf};
 ghost use Rattle.block.specs.Image.{sizeOk, imageThenKey};
-ghost use Rattle.block.specs.Calls.{SealedAt, seenOf, OpenedAt};
+ghost use Rattle.block.specs.Calls.{contentFor, fitsKind, SealedAt, seenOf, OpenedAt};
 ghost use Rattle.block.specs.Steps.{headSays};
 use numbers::BLOCK_BYTES;
 use numbers::BLOCK_PAYLOAD;
@@ -16,7 +16,6 @@ use numbers::DONE;
 use numbers::IMAGE_FEWEST;
 use numbers::IMAGE_MOST;
 use numbers::KEY_BYTES;
-use numbers::UNLAWFUL;
 use numbers::WRONG_IMAGE;
 use numbers::WRONG_LENGTH;
 
@@ -25,13 +24,22 @@ const SMALLEST: usize = IMAGE_FEWEST * BLOCK_BYTES;
 
 const LARGEST: usize = IMAGE_MOST * BLOCK_BYTES;
 
-// What opens at a place: for a record's blocks byte 5 and the bytes used.
+// What is sealed: for a record's blocks byte 5, whether it is the record's last.
+pub enum Kind {
+    First(bool),
+    More(bool),
+    Mark,
+    End,
+}
+
+// What opens at a place: for a record's blocks byte 5 and the bytes used. Refused, with its number, nothing was opened.
 pub enum Seen {
     Shut,
     First(bool, usize),
     More(bool, usize),
     Mark,
     End,
+    Refused(u8),
 }
 
 // Whether an image of `size` bytes has 4 to 128 whole blocks.
@@ -65,6 +73,41 @@ fn flag_number(last: bool) -> u8
     ensures { λ r. ⌜ r ≡ flag last ⌝ }
 {
     if last { 1 } else { 0 }
+}
+
+// The kind and byte 5 as the header has them.
+fn kind_number(kind: Kind) -> u8
+    ensures { λ r. ⌜ r ≡ kindOf (contentFor kind []) ⌝ }
+{
+    match kind {
+        Kind::First(_) => 1,
+        Kind::More(_) => 2,
+        Kind::Mark => 3,
+        Kind::End => 4,
+    }
+}
+
+fn last_number(kind: Kind) -> u8
+    ensures { λ r. ⌜ r ≡ lastOf (contentFor kind []) ⌝ }
+{
+    match kind {
+        Kind::First(last) => flag_number(last),
+        Kind::More(last) => flag_number(last),
+        Kind::Mark => 0,
+        Kind::End => 0,
+    }
+}
+
+// Whether a payload of `used` bytes fits its kind.
+fn is_fit(kind: Kind, used: usize) -> bool
+    ensures { λ r. ⌜ r ≡ fitsKind kind used ⌝ }
+{
+    match kind {
+        Kind::First(last) => is_used(flag_number(last), used),
+        Kind::More(last) => is_used(flag_number(last), used),
+        Kind::Mark => used == 0,
+        Kind::End => used == 0,
+    }
 }
 
 fn nonce_at(id: u32, recording: u64, p: u32) -> [u8; 16]
@@ -127,38 +170,31 @@ fn seal_parts(key: &[u8], nonce: &[u8; 16], head: &[u8; 8], message: &[u8; 488],
     aead::seal(key, nonce, head, message, &mut part[8..BLOCK_BYTES]);
 }
 
-// Seals a block at the front of `part`, and writes no byte beyond its 512. 2: a key, a payload or a part of a wrong length; 8: a kind that
-// is not 1 to 4. Refused, `part` stays.
+// Seals a block at the front of `part`, and writes no byte beyond its 512. 2: a key or a part of a wrong length, or a payload that does not
+// fit its kind: 488 bytes where the record goes on, 1 to 488 in its last block, none for a mark or end of data. Refused, `part` stays.
 pub fn seal_block(
     key: &[u8],
     id: u32,
     recording: u64,
     p: u32,
-    kind: u8,
-    last: bool,
+    kind: Kind,
     bytes: &[u8],
     part: &mut [u8],
 ) -> u8
-    ensures { λ r. ⌜ SealedAt (now (key .entry)) id recording p kind last (now (bytes .entry)) (now (part .entry)) r
+    ensures { λ r. ⌜ SealedAt (now (key .entry)) id recording p kind (now (bytes .entry)) (now (part .entry)) r
         (now (part .exit)) ⌝ }
 {
     if key.len() != KEY_BYTES {
         return WRONG_LENGTH;
     }
-    if BLOCK_PAYLOAD < bytes.len() {
-        return WRONG_LENGTH;
-    }
     if part.len() < BLOCK_BYTES {
         return WRONG_LENGTH;
     }
-    if kind < 1 {
-        return UNLAWFUL;
-    }
-    if 4 < kind {
-        return UNLAWFUL;
+    if !is_fit(kind, bytes.len()) {
+        return WRONG_LENGTH;
     }
     let nonce = nonce_at(id, recording, p);
-    let head = header_of(p, kind, flag_number(last), bytes.len());
+    let head = header_of(p, kind_number(kind), last_number(kind), bytes.len());
     let message = payload_of(bytes);
     seal_parts(key, &nonce, &head, &message, part);
     DONE
@@ -265,19 +301,19 @@ fn settle(kind: u8, last: u8, used: usize, out: &mut [u8]) -> Seen
 }
 
 // Opens the block at the front of `part` as block p, its payload into the 488 bytes of `out`; where it does not open, `out` is zero.
-// A key, a part or an `out` of a wrong length: nothing opens, and `out` stays.
+// Refused with 2, a key, a part or an `out` of a wrong length: `out` stays.
 pub fn open_block(key: &[u8], id: u32, recording: u64, p: u32, part: &[u8], out: &mut [u8]) -> Seen
     ensures { λ r. ⌜ OpenedAt (now (key .entry)) id recording p (now (part .entry)) (now (out .entry)) r
         (now (out .exit)) ⌝ }
 {
     if key.len() != KEY_BYTES {
-        return Seen::Shut;
+        return Seen::Refused(WRONG_LENGTH); // the key
     }
     if part.len() < BLOCK_BYTES {
-        return Seen::Shut;
+        return Seen::Refused(WRONG_LENGTH);
     }
     if out.len() != BLOCK_PAYLOAD {
-        return Seen::Shut;
+        return Seen::Refused(WRONG_LENGTH);
     }
     if number_in(part) != p as usize {
         buffer::zero(out);

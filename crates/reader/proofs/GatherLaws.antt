@@ -1,7 +1,7 @@
 -- A read and one turn of it, by what a block shows, as the code sees it.
 -- Assumes nothing.
 use mathlib.Core.Path.{_≡_, refl, sym, ap, ap₂, _∙_, subst}
-use mathlib.Core.Bool.{Bool, true, false}
+use mathlib.Core.Bool.{Bool, true, false, true≢false}
 use mathlib.Core.List.{List, [], _++_, append-assoc, append-nil}
 use Prim.Native.Nat.{ℕ, suc, _+_, _-_, _*_, _/_, _≤_, _<_, min}
 use native.Mathlib.Numerals.{add-one}
@@ -60,6 +60,14 @@ end-seen (more l b) e = cc
 end-seen (head (first l b)) e = cc
 end-seen (head mark) e = cc
 end-seen (head eod) e = refl
+
+-- of a place on the cartridge it never sees a refusal
+never-refused : (c : Content) {n : ℕ} → seenOf c ≡ seen.Refused n → ⊥
+never-refused shut e = true≢false cc
+never-refused (more l b) e = true≢false cc
+never-refused (head (first l b)) e = true≢false cc
+never-refused (head mark) e = true≢false cc
+never-refused (head eod) e = true≢false cc
 
 -- ---- what an answer leaves in the buffer
 got-is : (r : Got) {x : Outcome} {n : ℕ} → r .outcome ≡ x → r .next ≡ n → r ≡ record { outcome = x; next = n }
@@ -144,6 +152,9 @@ module _ {v : View} {end q at : ℕ} {a : Answer} {b₀ b b₁ : List ℕ} {s : 
     pub turn-end : s ≡ seen.End → r .next ≡ q → (r ≡ gotOf a) × (b′ ≡ splice b₀ 0 (filled (a .told)))
     turn-end e z = nothing-kept b₀ b₁ turn-back (Cut q) q (turns (head eod) (end-seen (v q) (sym (t .says) ∙ e))) refl y z l
 
+  pub turn-refused : {n : ℕ} → s ≡ seen.Refused n → ⊥
+  turn-refused e = never-refused (v q) (sym (t .says) ∙ e)
+
   -- the record's last block
   sized-as : {c d : Content} → c ≡ d → Sized c → Sized d
   sized-as e z = subst Sized e z
@@ -206,6 +217,9 @@ module _ {v : View} (c : ℕ) {p : ℕ} {b₀ b₁ : List ℕ} {s : Seen} (t : B
 
     pub begun-end : s ≡ seen.End → r .outcome ≡ o.End → r .next ≡ p → (r ≡ gotOf (readAt v c p)) × (b′ ≡ splice b₀ 0 (filled (readAt v c p .told)))
     begun-end e y z = nothing-kept b₀ b₁ begun-back End p (begins-as (head eod) (end-seen (v p) (sym (t .says) ∙ e))) refl y z l
+
+  pub begun-refused : {n : ℕ} → s ≡ seen.Refused n → ⊥
+  begun-refused e = never-refused (v p) (sym (t .says) ∙ e)
 
   -- a record of one block
   pub begun-last : {n : ℕ} {r : Got} {b′ : List ℕ} → s ≡ seen.First true n → r .outcome ≡ o.Record n → r .next ≡ p + 1 → b′ ≡ splice b₁ 488 (replicate (31232 - 488) 0)

@@ -118,6 +118,7 @@ fn read_rest(key: &[u8], id: u32, recording: u64, image: &[u8], p: usize, buffer
             }
             block::Seen::Mark => return answer_with(buffer, 0, Outcome::Cut(q), q),
             block::Seen::End => return answer_with(buffer, 0, Outcome::Cut(q), q),
+            block::Seen::Refused(_) => return answer_with(buffer, 0, Outcome::Cut(q), after),
         }
         q = after;
     }
@@ -144,6 +145,7 @@ fn read_lent(key: &[u8], id: u32, recording: u64, image: &[u8], p: usize, buffer
         block::Seen::More(_, _) => answer_with(buffer, 0, Outcome::Stray, p + 1),
         block::Seen::Mark => answer_with(buffer, 0, Outcome::Mark, p + 1),
         block::Seen::End => answer_with(buffer, 0, Outcome::End, p),
+        block::Seen::Refused(_) => answer_with(buffer, 0, Outcome::Bad, p + 1),
     }
 }
 

@@ -25,6 +25,7 @@ toldBetween (seen.First false n) = 255
 toldBetween (seen.More l n) = 4
 toldBetween seen.Mark = 1
 toldBetween seen.End = 2
+toldBetween (seen.Refused n) = 3
 
 -- ---- a block inside a record: the same, and how many blocks on the walk goes on
 abbrev pub toldInside : Seen → ℕ
@@ -34,6 +35,7 @@ toldInside (seen.More true n) = 0
 toldInside (seen.More false n) = 255
 toldInside seen.Mark = 5
 toldInside seen.End = 5
+toldInside (seen.Refused n) = 5
 
 abbrev pub passedInside : Seen → ℕ
 passedInside seen.Shut = 1
@@ -41,6 +43,7 @@ passedInside (seen.First l n) = 0
 passedInside (seen.More l n) = 1
 passedInside seen.Mark = 0
 passedInside seen.End = 0
+passedInside (seen.Refused n) = 1
 
 -- where `room` more blocks may belong to the record
 abbrev pub stepTo : ℕ → ℕ → Step

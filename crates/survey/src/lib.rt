@@ -76,6 +76,7 @@ fn told_between(seen: block::Seen) -> u8
         block::Seen::More(_, _) => STRAY,
         block::Seen::Mark => MARK,
         block::Seen::End => END,
+        block::Seen::Refused(_) => BAD,
     }
 }
 
@@ -161,6 +162,7 @@ fn told_inside(seen: block::Seen) -> u8
         block::Seen::More(last, _) => { if last { RECORD } else { ON } }
         block::Seen::Mark => CUT,
         block::Seen::End => CUT,
+        block::Seen::Refused(_) => CUT,
     }
 }
 
@@ -174,6 +176,7 @@ fn passed_inside(seen: block::Seen) -> usize
         block::Seen::More(_, _) => 1,
         block::Seen::Mark => 0,
         block::Seen::End => 0,
+        block::Seen::Refused(_) => 1,
     }
 }
 

@@ -1,6 +1,6 @@
 -- The blocks of a record, one after the other: what stands at each place among them, and the laying of the next one.
 -- Assumes nothing.
-use borrow.Author.Tests.{eqb-true, eqb-false}
+use borrow.Author.Tests.{eq-eqb, eqb-true, eqb-false, le-leb}
 use mathlib.Core.Path.{_≡_, refl, sym, ap, ap₂, _∙_}
 use mathlib.Core.Bool.{Bool, true, false}
 use mathlib.Core.List.{List, [], _∷_}
@@ -10,11 +10,14 @@ use native.Mathlib.Numerals.{add-one}
 use native.Mathlib.Omega.{arith}
 use lib.Dec.{eqb, eqb·zero-suc, eqb·suc-zero, eqb·suc-suc}
 use lib.ListN.{length, take, drop, length-drop, drop-of-length-le}
-use lib.Seq.{drop-drop, take-all}
+use lib.Seq.{drop-drop, take-all, length-take-le}
 use Rattle.laws.specs.Choose.{pick}
 use Rattle.block.specs.Content.{Content, more, head, first, flag}
-use Rattle.block.specs.Format.{blockOf, sealBlock}
+use Rattle.block.specs.declared.Kind.{Kind}
+use Rattle.block.specs.declared.Kind.the-variants as kind
+use Rattle.block.specs.Format.{sealBlock, usedOk}
 use Rattle.block.specs.Image.{setBlock, lay}
+use Rattle.block.specs.Calls.{contentFor, fitsKind}
 use Rattle.writer.specs.Items.{Item, rec, fmark, blocksFor, size, blocks, pieces, isNil, following, recorded, piece, pieceAt}
 
 -- ---- how many there are
@@ -84,25 +87,27 @@ lay-all key id recording image p k i b q h =
     let n : length (blocks (rec b)) ≤ i = omega (arith, length-blocks (rec b)) in
     rw (drop-of-length-le (blocks (rec b)) {i = i} n)
 
--- ---- the block as the code seals it: its kind, whether it is the last, its bytes up to `to`
+-- ---- the block as the code seals it: its kind, with whether it is the last, and its bytes up to `to`
 pub record Cut (n k i to : ℕ) : Type 0 where
   pub from-to : i * 488 ≤ to
   pub to-end : to ≤ n
   pub few : to - i * 488 ≤ 488
+  pub fit : usedOk (flag (eqb (i + 1) k)) (to - i * 488) ≡ true
 
 pub cut : (n k i to : ℕ) → k ≡ blocksFor n → i < k → to ≡ pick (eqb (i + 1) k) n (i * 488 + 488) → Cut n k i to
-unfolding blocksFor
+unfolding blocksFor usedOk
 cut n k i to q h e = either (eqb (i + 1) k) refl
   where
     either : (t : Bool) → eqb (i + 1) k ≡ t → Cut n k i to
     either true f =
         let g : to ≡ n = rw f at e in
         let m : i + 1 ≡ k = eqb-true (i + 1) k f in
-        record { from-to = omega arith; to-end = omega arith; few = omega arith }
+        let w : to - i * 488 ≤ 488 = omega arith in
+        record { from-to = omega arith; to-end = omega arith; few = w; fit = rw (f, le-leb 1 (to - i * 488) (omega arith), le-leb (to - i * 488) 488 w) }
     either false f =
         let g : to ≡ i * 488 + 488 = rw f at e in
         let m : i + 1 < k = omega (arith, eqb-false (i + 1) k f) in
-        record { from-to = omega arith; to-end = omega arith; few = omega arith }
+        record { from-to = omega arith; to-end = omega arith; few = omega arith; fit = rw f (eq-eqb (to - i * 488) 488 (omega arith)) }
 
 cut-bytes : (b : List ℕ) (k i to : ℕ) → k ≡ blocksFor (length b) → i < k → to ≡ pick (eqb (i + 1) k) (length b) (i * 488 + 488)
     → take (to - i * 488) (drop (i * 488) b) ≡ take 488 (drop (488 * i) b)
@@ -124,19 +129,25 @@ cut-bytes b k i to q h e =
         let n : to - 488 * i ≡ 488 = omega arith in
         ap (λ (m : ℕ). take m (drop (488 * i) b)) n
 
-pub kind-lawful : (begins : Bool) → (1 ≤ pick begins 1 2) × (pick begins 1 2 ≤ 4)
-kind-lawful true = (omega arith, omega arith)
-kind-lawful false = (omega arith, omega arith)
+abbrev pub kindAt : Bool → Bool → Kind
+kindAt begins last = pick begins (kind.First last) (kind.More last)
 
-seals-piece : (key : List ℕ) (id recording p : ℕ) (begins last : Bool) (b : List ℕ)
-    → blockOf key id recording p (pick begins 1 2) (flag last) b ≡ sealBlock key id recording p (piece begins last b)
-unfolding sealBlock
-seals-piece key id recording p true last b = refl
-seals-piece key id recording p false last b = refl
+piece-fits : (begins last : Bool) (n : ℕ) → usedOk (flag last) n ≡ true → fitsKind (kindAt begins last) n ≡ true
+piece-fits true last n e = e
+piece-fits false last n e = e
 
-pub seals-cut : (key : List ℕ) (id recording p : ℕ) (b : List ℕ) (k i to kind : ℕ) → k ≡ blocksFor (length b) → i < k
-    → to ≡ pick (eqb (i + 1) k) (length b) (i * 488 + 488) → kind ≡ pick (eqb i 0) 1 2
-    → blockOf key id recording p kind (flag (eqb (i + 1) k)) (take (to - i * 488) (drop (i * 488) b)) ≡ sealBlock key id recording p (pieceAt b k i)
-unfolding pieceAt
-seals-cut key id recording p b k i to kind q h e f =
-    rw (f, cut-bytes b k i to q h e, add-one) (seals-piece key id recording p (eqb i 0) (eqb (suc i) k) (take 488 (drop (488 * i) b)))
+piece-for : (begins last : Bool) (b : List ℕ) → contentFor (kindAt begins last) b ≡ piece begins last b
+piece-for true last b = refl
+piece-for false last b = refl
+
+module _ (b : List ℕ) (k i to : ℕ) (o : Kind) (q : k ≡ blocksFor (length b)) (h : i < k) (e : to ≡ pick (eqb (i + 1) k) (length b) (i * 488 + 488))
+    (f : o ≡ kindAt (eqb i 0) (eqb (i + 1) k)) where
+  pub cut-fits : fitsKind o (length (take (to - i * 488) (drop (i * 488) b))) ≡ true
+  cut-fits =
+      let c = cut (length b) k i to q h e in
+      let m = c .to-end in
+      rw (f, length-take-le (to - i * 488) (drop (i * 488) b) (simp length-drop (omega arith))) (piece-fits (eqb i 0) (eqb (i + 1) k) (to - i * 488) (c .fit))
+
+  pub cut-is-piece : contentFor o (take (to - i * 488) (drop (i * 488) b)) ≡ pieceAt b k i
+  unfolding pieceAt
+  cut-is-piece = rw (f, cut-bytes b k i to q h e, add-one) (piece-for (eqb i 0) (eqb (suc i) k) (take 488 (drop (488 * i) b)))

@@ -1,10 +1,12 @@
 // The writer: a state by value that comes back from each call, an image that is lent.
 ghost use mathlib.Core.Path.{_≡_};
+ghost use mathlib.Core.Bool.{true};
 ghost use mathlib.Core.List.{[]};
 ghost use Prim.Native.Nat.{_+_, _*_, _≤_, _<_};
 ghost use lib.ListN.{length};
-ghost use Rattle.block.specs.Format.{blockOf, sealBlock};
+ghost use Rattle.block.specs.Format.{sealBlock};
 ghost use Rattle.block.specs.Image.{setBlock, lay};
+ghost use Rattle.block.specs.Calls.{contentFor, fitsKind};
 ghost use Rattle.writer.specs.Items.{rec, fmark, blocksFor, blocks, pieceAt};
 ghost use Rattle.writer.specs.Writing.{zoneOk, lawful, itemNumber, closeNumber, start, write, close, Did};
 use numbers::BLOCK_BYTES;
@@ -124,14 +126,17 @@ fn lay_piece(
     } else {
         from + BLOCK_PAYLOAD
     };
-    let kind = if i == 0 { 1u8 } else { 2u8 };
+    let kind = if i == 0 {
+        block::Kind::First(last)
+    } else {
+        block::Kind::More(last)
+    };
     block::seal_block(
         key,
         id,
         recording,
         (p + i) as u32,
         kind,
-        last,
         &bytes[from..to],
         &mut image[at..],
     );
@@ -158,10 +163,10 @@ fn lay_record(
 }
 
 // Lays a block that has no payload, a file mark or end of data, at p.
-fn lay_empty(key: &[u8], id: u32, recording: u64, p: usize, kind: u8, image: &mut [u8])
-    requires { ⌜ (length (now key) ≡ 24) × (p * 512 + 512 ≤ length (now image)) × (p < 128) × (1 ≤ kind) × (kind ≤ 4) ⌝ }
+fn lay_empty(key: &[u8], id: u32, recording: u64, p: usize, kind: block::Kind, image: &mut [u8])
+    requires { ⌜ (length (now key) ≡ 24) × (p * 512 + 512 ≤ length (now image)) × (p < 128) × (fitsKind kind 0 ≡ true) ⌝ }
     ensures { λ _. ⌜ now (image .exit) ≡ setBlock (now (image .entry)) p
-        (blockOf (now (key .entry)) id recording p kind 0 []) ⌝ }
+        (sealBlock (now (key .entry)) id recording p (contentFor kind [])) ⌝ }
 {
     let at = p * BLOCK_BYTES;
     block::seal_block(
@@ -170,7 +175,6 @@ fn lay_empty(key: &[u8], id: u32, recording: u64, p: usize, kind: u8, image: &mu
         recording,
         p as u32,
         kind,
-        false,
         &key[..0],
         &mut image[at..],
     );
@@ -281,7 +285,7 @@ impl WriterState {
                 reply: Reply::Refused(NO_ROOM),
             };
         }
-        lay_empty(key, self.id, self.recording, p, 3, image);
+        lay_empty(key, self.id, self.recording, p, block::Kind::Mark, image);
         self.position = p + 1;
         Wrote {
             state: self,
@@ -301,7 +305,7 @@ impl WriterState {
             };
         }
         let at = self.position;
-        lay_empty(key, self.id, self.recording, at, 4, image);
+        lay_empty(key, self.id, self.recording, at, block::Kind::End, image);
         self.position = at + 1;
         self.closed = true;
         Wrote {

@@ -6,21 +6,21 @@ use mathlib.Core.Path.{sym, _∙_}
 use native.Mathlib.Omega.{arith}
 use lib.Seq.{length-take-le}
 use Rattle.aead.specs.Sealing.{keyOk}
-use Rattle.block.specs.Calls.{openable}
+use Rattle.block.specs.Calls.{openBlockNumber}
 use Rattle.block.proofs.OpenLaws.{number-shuts, tag-shuts, tag-opens, open-stays, open-answers, open-shuts}
 use Rattle.block.proofs.open_block.Statement.{statement}
 use Rattle.block.proofs.open_block.Tie as tie
 
 returns : tie.Need-returns
-unfolding openable keyOk
+unfolding openBlockNumber keyOk
 returns c = open-stays (rw (ne-eqb _ _ (c .if1 .taken)))
 
 returns-2 : tie.Need-returns-2
-unfolding openable keyOk
+unfolding openBlockNumber keyOk
 returns-2 c = open-stays (rw (eq-eqb _ _ (c .before .if1 .left), lt-leb _ _ (c .if2 .taken)))
 
 returns-3 : tie.Need-returns-3
-unfolding openable keyOk
+unfolding openBlockNumber keyOk
 returns-3 c = open-stays (rw (eq-eqb _ _ (c .before .before .if1 .left), le-leb _ _ (c .before .if2 .left), ne-eqb _ _ (c .if3 .taken)))
 
 number-in-requires : tie.Need-number-in-requires

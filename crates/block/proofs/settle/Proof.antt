@@ -17,8 +17,8 @@ use Rattle.block.proofs.settle.Statement.{statement}
 use Rattle.block.proofs.settle.Tie as tie
 
 -- the other arm is not come to with Shut
-other-arm : {s : Seen} → s ≡ seen.Shut → OneOf (1 ∷ 2 ∷ 3 ∷ 4 ∷ []) (tagOf the-type s) → ⊥
-other-arm e k = miss (1 ∷ 2 ∷ 3 ∷ 4 ∷ []) 0 tt (subst (λ (x : Seen). OneOf (1 ∷ 2 ∷ 3 ∷ 4 ∷ []) (tagOf the-type x)) e k)
+other-arm : {s : Seen} → s ≡ seen.Shut → OneOf (1 ∷ 2 ∷ 3 ∷ 4 ∷ 5 ∷ []) (tagOf the-type s) → ⊥
+other-arm e k = miss (1 ∷ 2 ∷ 3 ∷ 4 ∷ 5 ∷ []) 0 tt (subst (λ (x : Seen). OneOf (1 ∷ 2 ∷ 3 ∷ 4 ∷ 5 ∷ []) (tagOf the-type x)) e k)
 
 is-zero-requires : tie.Need-is-zero-requires
 is-zero-requires c κs = search needs

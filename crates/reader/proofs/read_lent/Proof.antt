@@ -8,7 +8,7 @@ use Rattle.block.specs.declared.Seen.the-variants as seen
 use Rattle.block.specs.Image.{view, capacityOf}
 use Rattle.reader.specs.Reading.{readAnswer}
 use Rattle.block.proofs.ViewLaws.{view-sized}
-use Rattle.reader.proofs.GatherLaws.{Begun, begun-shut, begun-more, begun-mark, begun-end, begun-last, begun-first}
+use Rattle.reader.proofs.GatherLaws.{Begun, begun-shut, begun-more, begun-mark, begun-end, begun-refused, begun-last, begun-first}
 use Rattle.reader.proofs.read_lent.Statement.{statement}
 use Rattle.reader.proofs.read_lent.Tie as tie
 
@@ -73,6 +73,15 @@ enum-told-4 c = search needs
 answer-with-requires-5 : tie.Need-answer-with-requires-5
 answer-with-requires-5 c κs = search needs
 
+enum-told-5 : tie.Need-enum-told-5
+enum-told-5 c = search needs
+
+add-answer-with-5 : tie.Need-add-answer-with-5
+add-answer-with-5 c = omega arith
+
+answer-with-requires-6 : tie.Need-answer-with-requires-6
+answer-with-requires-6 c κs = search needs
+
 same-length : tie.Need-same-length
 same-length c = search needs
 
@@ -129,6 +138,12 @@ returns-6 c =
     let n = c .before .before .answer-with5 in
     begun-end (capacityOf (c .before .before .before .before .before .before .before .before .before .before .before .before .before .args .image .now)) (begun (c .before .before .before .before .before .before .before .before)) (n .ensures .1) (c .before .before .before .before .enum-told4 .given .1) (n .ensures .0 .0) (n .ensures .0 .1)
 
+same-length-7 : tie.Need-same-length-7
+same-length-7 c = search needs
+
+returns-7 : tie.Need-returns-7
+returns-7 c = absurd (begun-refused 0 (begun (c .before .before .before .before .before .before .before .before)) (c .before .before .before .before .enum-told5 .given .1))
+
 pub read-lent-spec : {M : Type 1} → statement M
 read-lent-spec =
     tie.close
@@ -149,6 +164,9 @@ read-lent-spec =
     answer-with-requires-4
     enum-told-4
     answer-with-requires-5
+    enum-told-5
+    add-answer-with-5
+    answer-with-requires-6
     same-length
     returns
     same-length-2
@@ -160,4 +178,6 @@ read-lent-spec =
     same-length-5
     returns-5
     same-length-6
-    returns-6)
+    returns-6
+    same-length-7
+    returns-7)

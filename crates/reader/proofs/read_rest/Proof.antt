@@ -12,7 +12,7 @@ use Rattle.block.specs.Image.{view}
 use Rattle.reader.specs.Walk.{Cut, gather}
 use Rattle.reader.specs.Steps.{restAnswer}
 use Rattle.block.proofs.ViewLaws.{view-sized}
-use Rattle.reader.proofs.GatherLaws.{Turn, turn-shut, turn-first, turn-mark, turn-end, turn-last, turn-more, turn-used, turn-back, gather-end, nothing-kept, rest-room}
+use Rattle.reader.proofs.GatherLaws.{Turn, turn-shut, turn-first, turn-mark, turn-end, turn-last, turn-more, turn-refused, turn-used, turn-back, gather-end, nothing-kept, rest-room}
 use Rattle.reader.proofs.read_rest.Statement.{statement}
 use Rattle.reader.proofs.read_rest.Tie as tie
 
@@ -146,6 +146,18 @@ returns-5 c =
     let n = c .before .before .answer-with5 in
     turn-end (turn (c .before .before .before .before .before .before .before .before)) (n .ensures .1) (n .ensures .0 .0) (c .before .before .before .before .enum-told4 .given .1) (n .ensures .0 .1)
 
+enum-told-5 : tie.Need-enum-told-5 Inv-loop μ-loop
+enum-told-5 c = search needs
+
+answer-with-requires-6 : tie.Need-answer-with-requires-6 Inv-loop μ-loop
+answer-with-requires-6 c κs = (omega arith, omega arith)
+
+same-length-6 : tie.Need-same-length-6 Inv-loop μ-loop
+same-length-6 c = search needs
+
+returns-6 : tie.Need-returns-6 Inv-loop μ-loop
+returns-6 c = absurd (turn-refused (turn (c .before .before .before .before .before .before .before .before)) (c .before .before .before .before .enum-told5 .given .1))
+
 loop-less : tie.Need-loop-less Inv-loop μ-loop
 loop-less c = omega arith
 
@@ -166,15 +178,15 @@ loop-again c =
           ∙ turn-more (turn s) (d .last .given .1 ∙ ap (λ (x : Bool). seen.More x (d .last .given .0 .1 .0)) (c .if2 .left)),
     )
 
-answer-with-requires-6 : tie.Need-answer-with-requires-6 Inv-loop μ-loop
-answer-with-requires-6 c κs = (omega arith, omega arith)
+answer-with-requires-7 : tie.Need-answer-with-requires-7 Inv-loop μ-loop
+answer-with-requires-7 c κs = (omega arith, omega arith)
 
-same-length-6 : tie.Need-same-length-6 Inv-loop μ-loop
-same-length-6 c = search needs
+same-length-7 : tie.Need-same-length-7 Inv-loop μ-loop
+same-length-7 c = search needs
 
-returns-6 : tie.Need-returns-6 Inv-loop μ-loop
-returns-6 c =
-    let n = c .before .before .answer-with6 in
+returns-7 : tie.Need-returns-7 Inv-loop μ-loop
+returns-7 c =
+    let n = c .before .before .answer-with7 in
     let l = c .before .before .before .before .before .loop in
     let a = c .before .before .before .before .before .before .before .before .before .before .args in
     nothing-kept (a .buffer .now) (l .buffer) (l .inv .4) (Cut (l .q)) (l .q) (sym (l .inv .5) ∙ gather-end _ _ (l .q) _ (omega arith)) refl (n .ensures .0 .0) (n .ensures .0 .1) (n .ensures .1)
@@ -214,8 +226,12 @@ read-rest-spec =
     answer-with-requires-5
     same-length-5
     returns-5
-    loop-less
-    loop-again
+    enum-told-5
     answer-with-requires-6
     same-length-6
-    returns-6)
+    returns-6
+    loop-less
+    loop-again
+    answer-with-requires-7
+    same-length-7
+    returns-7)

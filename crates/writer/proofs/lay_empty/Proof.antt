@@ -33,8 +33,8 @@ same-length c = search needs
 returns : tie.Need-returns
 returns c =
     let s = c .before .before in
-    let a = s .before .before .before .before .before .args in
-    lent-part (a .image .now) _ (omega arith) (omega arith) (omega arith) (omega arith) (omega arith) (omega arith) (s .seal-block .ensures)
+    let e = s .before .before .before .before .before in
+    lent-part (e .args .image .now) _ (omega arith) (omega arith) (e .pre .3) (omega arith) (s .seal-block .ensures)
 
 pub lay-empty-spec : {M : Type 1} → statement M
 lay-empty-spec =

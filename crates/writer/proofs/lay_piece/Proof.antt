@@ -4,13 +4,15 @@ use borrow.Author.Tests.{eq-eqb, ne-eqb}
 use mathlib.Core.Bool.{Bool}
 use mathlib.Core.Logic.{⊎-elim}
 use mathlib.Core.Path.{_≡_, sym, ap, _∙_}
-use Prim.Native.Nat.{_+_, _-_, _*_}
+use Prim.Native.Nat.{_+_, _*_}
 use native.Mathlib.Omega.{arith}
 use lib.Dec.{eqb}
-use lib.ListN.{length, drop, length-take}
+use lib.ListN.{length}
 use Rattle.laws.specs.Choose.{pick}
+use Rattle.block.specs.Content.{Content}
+use Rattle.block.specs.Format.{sealBlock}
 use Rattle.block.specs.Image.{setBlock}
-use Rattle.writer.proofs.Pieces.{Cut, cut, kind-lawful, seals-cut}
+use Rattle.writer.proofs.Pieces.{Cut, cut, kindAt, cut-fits, cut-is-piece}
 use Rattle.writer.proofs.Lent.{lent-part}
 use borrow.Author.Needs.{needs}
 use Rattle.writer.proofs.lay_piece.Statement.{statement}
@@ -29,10 +31,11 @@ cut-is c =
     let r = c .before .before .before .before .pre in
     cut _ _ _ _ (r .4) (r .3) (to-is c)
 
-kind-is : (c : tie.Joined2) → c .if2 .kind ≡ pick (eqb (c .before .before .before .before .before .args .i) 0) 1 2
+kind-is : (c : tie.Joined2) → let a = c .before .before .before .before .before .args in c .if2 .kind ≡ kindAt (eqb (a .i) 0) (eqb (a .i + 1) (a .k))
 kind-is c =
-    ⊎-elim (λ w. w .1 ∙ sym (ap (λ (b : Bool). pick b 1 2) (eq-eqb _ _ (w .0 .taken))))
-    (λ w. w .1 ∙ sym (ap (λ (b : Bool). pick b 1 2) (ne-eqb _ _ (w .0 .left)))) (c .if2 .came)
+    let a = c .before .before .before .before .before .args in
+    ⊎-elim (λ w. w .1 ∙ sym (ap (λ (b : Bool). kindAt b (eqb (a .i + 1) (a .k))) (eq-eqb _ _ (w .0 .taken))))
+    (λ w. w .1 ∙ sym (ap (λ (b : Bool). kindAt b (eqb (a .i + 1) (a .k))) (ne-eqb _ _ (w .0 .left)))) (c .if2 .came)
 
 add-at : tie.Need-add-at
 add-at c = search needs
@@ -85,12 +88,11 @@ returns c =
     let j = s .before .before .before .before in
     let a = j .before .before .before .before .before .args in
     let r = j .before .before .before .before .before .pre in
-    let k = cut-is (j .before) in
-    let n = length-take (j .before .if1 .to - a .i * 488) (drop (a .i * 488) (a .bytes .now)) in
-    let l = kind-lawful (eqb (a .i) 0) in
-    lent-part (a .image .now) ((a .p + a .i) * 512) (omega arith) (r .0) (omega arith) (omega arith) (omega (arith, kind-is j, l .0)) (omega (arith, kind-is j, l .1)) (s .seal-block .ensures)
-    ∙ ap (setBlock (a .image .now) (a .p + a .i))
-    (seals-cut (a .key .now) (a .id) (a .recording) (a .p + a .i) (a .bytes .now) (a .k) (a .i) (j .before .if1 .to) (j .if2 .kind) (r .4) (r .3) (to-is (j .before)) (kind-is j))
+    let t = to-is (j .before) in
+    let o = kind-is j in
+    lent-part (a .image .now) ((a .p + a .i) * 512) (omega arith) (r .0) (cut-fits (a .bytes .now) (a .k) (a .i) (j .before .if1 .to) (j .if2 .kind) (r .4) (r .3) t o) (omega arith) (s .seal-block .ensures)
+    ∙ ap (λ (x : Content). setBlock (a .image .now) (a .p + a .i) (sealBlock (a .key .now) (a .id) (a .recording) (a .p + a .i) x))
+    (cut-is-piece (a .bytes .now) (a .k) (a .i) (j .before .if1 .to) (j .if2 .kind) (r .4) (r .3) t o)
 
 pub lay-piece-spec : {M : Type 1} → statement M
 lay-piece-spec =

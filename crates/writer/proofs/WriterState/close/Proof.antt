@@ -3,7 +3,6 @@
 use borrow.Author.Needs.{needs}
 use mathlib.Core.Path.{refl, sym, _∙_}
 use native.Mathlib.Omega.{arith}
-use Rattle.block.specs.Format.{sealBlock}
 use Rattle.block.specs.Image.{lay}
 use Rattle.writer.proofs.Ready.{Ready, facts, close-ready}
 use Rattle.writer.proofs.Answers.{close-refused, close-taken}
@@ -24,7 +23,7 @@ returns : tie.Need-returns
 returns c = close-refused _ _ _ (c .before .call-number .ensures) (c .if1 .taken)
 
 lay-empty-requires : tie.Need-lay-empty-requires
-lay-empty-requires c κs = let r = is-ready (c .before) in let f = facts r in omega arith
+lay-empty-requires c κs = let r = is-ready (c .before) in let f = facts r in (r .asked .key24, omega arith, omega arith, refl)
 
 add-self : tie.Need-add-self
 add-self c = let f = facts (is-ready (c .before .before .before .before)) in omega arith
@@ -33,7 +32,7 @@ same-length-2 : tie.Need-same-length-2
 same-length-2 c = search needs
 
 returns-2 : tie.Need-returns-2
-unfolding lay sealBlock
+unfolding lay
 returns-2 c =
     let e = c .before .before .before .before in
     close-taken _ _ _ (sym (e .before .call-number .ensures) ∙ e .if1 .left) (record { says = refl; number = refl; leaves = c .before .before .lay-empty .ensures })

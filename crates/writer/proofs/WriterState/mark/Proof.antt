@@ -6,7 +6,6 @@ use mathlib.Core.Bool.{Bool}
 use mathlib.Core.Path.{refl, sym, ap, _∙_}
 use Prim.Native.Nat.{_+_, _≤_, _<_}
 use native.Mathlib.Omega.{arith}
-use Rattle.block.specs.Format.{sealBlock}
 use Rattle.block.specs.Image.{lay}
 use Rattle.writer.specs.declared.Reply.the-variants.{Plain}
 use Rattle.writer.specs.Items.{fmark}
@@ -45,7 +44,7 @@ returns-2 c =
     write-refused _ _ _ fmark (sym (item-asks (is-ready (c .before .before)) fmark ∙ simp (le-ltb _ _ h))) (λ z. omega arith)
 
 lay-empty-requires : tie.Need-lay-empty-requires
-lay-empty-requires c κs = let r = is-ready (c .before .before .before) in let f = facts r in omega arith
+lay-empty-requires c κs = let r = is-ready (c .before .before .before) in let f = facts r in (r .asked .key24, omega arith, omega arith, refl)
 
 add-self : tie.Need-add-self
 add-self c = search needs
@@ -54,7 +53,7 @@ same-length-3 : tie.Need-same-length-3
 same-length-3 c = search needs
 
 returns-3 : tie.Need-returns-3
-unfolding room lay sealBlock
+unfolding room lay
 returns-3 c =
     let t = c .before .before .before .before in
     let r = is-ready (t .before .before) in
