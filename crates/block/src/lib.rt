@@ -301,7 +301,7 @@ fn settle(kind: u8, last: u8, used: usize, out: &mut [u8]) -> Seen
 }
 
 // Opens the block at the front of `part` as block p, its payload into the 488 bytes of `out`; where it does not open, `out` is zero.
-// Refused with 2, a key, a part or an `out` of a wrong length: `out` stays.
+// 2: a key, a part or an `out` of a wrong length. Refused, `out` stays.
 pub fn open_block(key: &[u8], id: u32, recording: u64, p: u32, part: &[u8], out: &mut [u8]) -> Seen
     ensures { λ r. ⌜ OpenedAt (now (key .entry)) id recording p (now (part .entry)) (now (out .entry)) r
         (now (out .exit)) ⌝ }
