@@ -2,6 +2,7 @@
 #include <stdio.h>
 #include <string.h>
 
+#include "format.h"
 #include "rehearsal.h"
 #include "vectors.h"
 #include "walk.h"
@@ -16,6 +17,7 @@ static const struct {
     {"walk.stdout", walk_stdout},
     {"walk.data/reel", walk_image},
     {"walk.data/key", walk_key},
+    {"docs.FORMAT", format_block},
 };
 
 #define FILES (sizeof files / sizeof files[0])
