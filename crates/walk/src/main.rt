@@ -3,6 +3,11 @@
 ghost use Prim.Native.Nat.{_≤_};
 ghost use lib.ListN.{length};
 ghost use Rattle.print.specs.Parsing.{Within};
+use numbers::BLOCK_BYTES;
+use numbers::DONE;
+use numbers::IMAGE_MOST;
+use numbers::KEY_BYTES;
+use numbers::RECORD_MAX;
 use print::Parsed;
 use reader::Outcome;
 
@@ -72,7 +77,7 @@ fn show_answer(p: usize, outcome: Outcome) {
 
 // Reads at p and says the answer; the next position, or the image's end where the walk stops.
 fn visit(key: &[u8], id: u32, recording: u64, image: &[u8], p: usize) -> usize {
-    let mut record = [0u8; 31232];
+    let mut record = [0u8; RECORD_MAX];
     let got = reader::read(key, id, recording, image, p, &mut record);
     let outcome = got.outcome;
     show_answer(p, outcome);
@@ -86,8 +91,8 @@ fn visit(key: &[u8], id: u32, recording: u64, image: &[u8], p: usize) -> usize {
 // A walk has no more reads than blocks, and an image 128 of them at the most.
 fn walk(key: &[u8], id: u32, recording: u64, image: &[u8]) {
     let mut p: usize = 0;
-    for i in 0usize..128 {
-        if image.len() / 512 <= p {
+    for i in 0usize..IMAGE_MOST {
+        if image.len() / BLOCK_BYTES <= p {
             return;
         }
         p = visit(key, id, recording, image, p);
@@ -107,7 +112,7 @@ fn report(key: &[u8], id: u32, recording: u64, image: &[u8]) {
 
 fn serve(key: &[u8], id: u32, recording: u64, image: &[u8]) {
     let number = survey::report(key, id, recording, image).number;
-    if number != 0 {
+    if number != DONE {
         explain(number);
         return;
     }
@@ -116,9 +121,13 @@ fn serve(key: &[u8], id: u32, recording: u64, image: &[u8]) {
 }
 
 // Files longer than what may be asked for are read one byte beyond it, so that they are refused and not cut.
+const IMAGE_ROOM: usize = IMAGE_MOST * BLOCK_BYTES + 1;
+
+const KEY_ROOM: usize = KEY_BYTES + 1;
+
 fn run(id: u32, recording: u64) {
-    let mut image = [0u8; 65537];
-    let mut key = [0u8; 25];
+    let mut image = [0u8; IMAGE_ROOM];
+    let mut key = [0u8; KEY_ROOM];
     let n = load(1, &mut image);
     let k = load(2, &mut key);
     serve(&key[0..k], id, recording, &image[0..n]);
