@@ -240,6 +240,14 @@ pub fn open(key: &[u8], nonce: &[u8], data: &[u8], sealed: &[u8], out: &mut [u8]
 
 /// What the writer keeps of a recording. It can't be copied: each call takes it and gives back the one to go on from, so an old state is
 /// gone.
+///
+/// ```compile_fail,E0382
+/// # let (key, mut image) = ([0; 24], [0; 2048]);
+/// let old = notchbadger::State::start(7, 2027, 1, &mut image)?;
+/// let wrote = old.mark(&key, &mut image);
+/// let again = old.record(&key, b"the mark's nonce again", &mut image);
+/// # Ok::<(), notchbadger::Cause>(())
+/// ```
 #[derive(Debug, PartialEq, Eq)]
 #[must_use = "a recording goes on from its last state alone"]
 pub struct State {
