@@ -36,6 +36,11 @@
 extern "C" {
 #endif
 
+/* The version of this header, and of the archive that is linked: they should be
+ * the same. No number. Writes nothing. */
+#define NB_VERSION 1
+uint32_t nb_version(void);
+
 /* The numbers. The c of an image is how many blocks it has. */
 #define NB_DONE 0
 #define NB_WRONG_IMAGE 1  /* an image that is not 4 to 128 whole blocks */

@@ -241,6 +241,7 @@ static void reading(void)
 
 int main(void)
 {
+    IS(nb_version() == NB_VERSION);
     IS(NB_IMAGE_FEWEST == 4 && NB_IMAGE_MOST == 128 && NB_RATE_BYTES == 32 && NB_DOMAIN_NONCE == 0x20 && NB_DOMAIN_DATA == 0x40);
     IS(NB_RECORD_BLOCKS * NB_BLOCK_PAYLOAD == NB_RECORD_MAX);
     permutation();

@@ -39,6 +39,7 @@ static void read_everywhere(void)
 
 /* name, call */
 #define CALLS(X) \
+    X(nb_version, nb_version()) \
     X(nb_permute, nb_permute(STATE)) \
     X(nb_permute_back, nb_permute_back(STATE)) \
     X(nb_round, nb_round(STATE, other, sizeof other)) \
