@@ -32,6 +32,15 @@
 #include <stddef.h>
 #include <stdint.h>
 
+/* A dropped answer is a bug: a refusal that nobody saw. */
+#if defined(__GNUC__)
+#define NB_MUST_USE __attribute__((warn_unused_result))
+#elif defined(__cplusplus) && __cplusplus >= 201703L
+#define NB_MUST_USE [[nodiscard]]
+#else
+#define NB_MUST_USE
+#endif
+
 #ifdef __cplusplus
 extern "C" {
 #endif
@@ -79,21 +88,25 @@ uint32_t nb_version(void);
 
 /* Runs the permutation over the state, in place. 2. Writes the state alone,
  * and only when it returns 0. */
+NB_MUST_USE
 uint8_t nb_permute(uint8_t *state, size_t state_len);
 
 /* Undoes nb_permute, in place. 2. Writes the state alone, and only when it
  * returns 0. */
+NB_MUST_USE
 uint8_t nb_permute_back(uint8_t *state, size_t state_len);
 
 /* Runs one round of the permutation over the state, in place: substitutes,
  * shifts and mixes, and takes in the round key, of NB_STATE_BYTES bytes, by
  * xor. 2 (state or key). Writes the state alone, and only when it returns
  * 0. */
+NB_MUST_USE
 uint8_t nb_round(uint8_t *state, size_t state_len,
                  const uint8_t *key, size_t key_len);
 
 /* Undoes nb_round with the same key, in place. 2 (state or key). Writes the
  * state alone, and only when it returns 0. */
+NB_MUST_USE
 uint8_t nb_round_back(uint8_t *state, size_t state_len,
                       const uint8_t *key, size_t key_len);
 
@@ -103,18 +116,21 @@ uint8_t nb_minibox(uint8_t x);
 
 /* Takes bytes into the state and closes the operation. No bytes are an
  * operation too. 2, 9. Writes the state alone, and only when it returns 0. */
+NB_MUST_USE
 uint8_t nb_put(uint8_t *state, size_t state_len,
                const uint8_t *bytes, size_t bytes_len, uint8_t domain);
 
 /* Fills out from the state and closes the operation; out_len is how many
  * bytes are asked for. 2, 9. Writes state and out, and only when it
  * returns 0. */
+NB_MUST_USE
 uint8_t nb_get(uint8_t *state, size_t state_len,
                uint8_t *out, size_t out_len, uint8_t domain);
 
 /* Encrypts the message into out, of the same length, and closes the operation;
  * the state goes on from the ciphertext. 2 (also where the two lengths
  * differ), 9. Writes state and out, and only when it returns 0. */
+NB_MUST_USE
 uint8_t nb_enc(uint8_t *state, size_t state_len,
                const uint8_t *message, size_t message_len,
                uint8_t *out, size_t out_len, uint8_t domain);
@@ -123,6 +139,7 @@ uint8_t nb_enc(uint8_t *state, size_t state_len,
  * operation; from the state that nb_enc began with it ends in the state that
  * nb_enc ended in. 2 (also where the two lengths differ), 9. Writes state and
  * out, and only when it returns 0. */
+NB_MUST_USE
 uint8_t nb_dec(uint8_t *state, size_t state_len,
                const uint8_t *cipher, size_t cipher_len,
                uint8_t *out, size_t out_len, uint8_t domain);
@@ -132,6 +149,7 @@ uint8_t nb_dec(uint8_t *state, size_t state_len,
  * covered by the tag and not stored. 2 (key, nonce or out), 9 (data above
  * NB_DATA_MAX or message above NB_MESSAGE_MAX). Writes out alone, and only
  * when it returns 0. */
+NB_MUST_USE
 uint8_t nb_seal(const uint8_t *key, size_t key_len,
                 const uint8_t *nonce, size_t nonce_len,
                 const uint8_t *data, size_t data_len,
@@ -143,6 +161,7 @@ uint8_t nb_seal(const uint8_t *key, size_t key_len,
  * processing. 2 (key, nonce, out, or sealed_len under NB_TAG_BYTES), 9 (data
  * above NB_DATA_MAX or sealed_len above NB_MESSAGE_MAX + NB_TAG_BYTES), 7.
  * Writes out alone: the message on 0, zeros on 7, nothing on 2 and 9. */
+NB_MUST_USE
 uint8_t nb_open(const uint8_t *key, size_t key_len,
                 const uint8_t *nonce, size_t nonce_len,
                 const uint8_t *data, size_t data_len,
@@ -198,6 +217,7 @@ typedef struct {
 /* Begins a recording: fills the image with zeros and gives an open state at
  * position 0. 1, 3; refused, the state is all zeros but for closed, which is 1,
  * and no image takes it (8). Writes the image, and only when not refused. */
+NB_MUST_USE
 nb_wrote nb_start(uint32_t id, uint64_t recording, size_t zone,
                   uint8_t *image, size_t image_len);
 
@@ -206,6 +226,7 @@ nb_wrote nb_start(uint32_t id, uint64_t recording, size_t zone,
  * the position afterwards is above capacity - zone. 1, 2, 8, 6, 4, 5; refused,
  * the state comes back as it was given, every field of it. Writes its own
  * blocks of the image, and only when not refused. */
+NB_MUST_USE
 nb_wrote nb_record(nb_state state, const uint8_t *key, size_t key_len,
                    const uint8_t *bytes, size_t bytes_len,
                    uint8_t *image, size_t image_len);
@@ -213,6 +234,7 @@ nb_wrote nb_record(nb_state state, const uint8_t *key, size_t key_len,
 /* Writes a file mark, one block, at the position. 1, 2, 8, 6, 5; refused, the
  * state comes back as it was given. Writes its own block of the image, and
  * only when not refused. */
+NB_MUST_USE
 nb_wrote nb_mark(nb_state state, const uint8_t *key, size_t key_len,
                  uint8_t *image, size_t image_len);
 
@@ -220,6 +242,7 @@ nb_wrote nb_mark(nb_state state, const uint8_t *key, size_t key_len,
  * while it is open there is always room. 1, 2, 8, 6; refused, the state comes
  * back as it was given. Writes its own block of the image, and only when not
  * refused. */
+NB_MUST_USE
 nb_wrote nb_close(nb_state state, const uint8_t *key, size_t key_len,
                   uint8_t *image, size_t image_len);
 
@@ -279,6 +302,7 @@ typedef struct {
  * not open and at one of another kind. 1, 2, 8; refused, next is p. Writes the
  * first NB_RECORD_MAX bytes of the buffer, and only when not refused: a record
  * and zeros behind it, or zeros alone. */
+NB_MUST_USE
 nb_got nb_read(const uint8_t *key, size_t key_len, uint32_t id, uint64_t recording,
                const uint8_t *image, size_t image_len, size_t p,
                uint8_t *buffer, size_t buffer_len);
@@ -286,26 +310,31 @@ nb_got nb_read(const uint8_t *key, size_t key_len, uint32_t id, uint64_t recordi
 /* The record that nb_read left in the buffer, by its length: the front part, or
  * the empty part at the front where length is above buffer_len. No number.
  * Writes nothing. */
+NB_MUST_USE
 nb_part nb_record_part(const uint8_t *buffer, size_t buffer_len, size_t length);
 
 /* Block p as it stands in the image, unopened: its NB_BLOCK_BYTES bytes; where
  * it is refused, the empty part at the front. No number: nb_look_number tells
  * why. Writes nothing. */
+NB_MUST_USE
 nb_part nb_look(const uint8_t *image, size_t image_len, size_t p);
 
 /* The number of nb_look with the same arguments. 1, 8. Writes nothing. */
+NB_MUST_USE
 uint8_t nb_look_number(const uint8_t *image, size_t image_len, size_t p);
 
 /* Reads on from position p past n file marks. At: the position behind the nth
  * mark, which may be c; for n = 0 it is p, unread. Short: the marks passed, and
  * the place of the end of data, or c where none came. 1, 2, 8; refused, the
  * position is p. Writes nothing. */
+NB_MUST_USE
 nb_spaced nb_space(const uint8_t *key, size_t key_len, uint32_t id, uint64_t recording,
                    const uint8_t *image, size_t image_len, size_t p, size_t n);
 
 /* Counts the outcomes of the walk: the reads from 0 on, each at the next of
  * the one before, up to the end of data or c. 1, 2; refused, all counts are
  * zero. Writes nothing. */
+NB_MUST_USE
 nb_tally nb_report(const uint8_t *key, size_t key_len, uint32_t id, uint64_t recording,
                    const uint8_t *image, size_t image_len);
 
