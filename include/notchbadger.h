@@ -7,8 +7,8 @@
  *  - a length beyond the memory behind its pointer;
  *  - two lent parts that overlap, where the call writes into one of them;
  *  - another thread that touches lent memory during the call.
- * A part of length 0 may have any pointer that is not NULL; pass the address
- * of some byte of yours.
+ * A part of length 0 may have any pointer, NULL too: (NULL, 0) is an empty
+ * part, taken or refused as its length says.
  *
  * The owner's duty: a nonce must never come twice under one key. The calls
  * cannot see it, and sealing two messages so loses the secrecy of both. What
@@ -19,8 +19,12 @@
  *
  * A call returns a number, alone or in a struct, unless it says "no number":
  * NB_DONE when it was carried out, else the first cause in the order given at
- * the call. A refused call (any cause but 7) leaves all lent memory as it was.
- * 7 leaves the receiving buffer all zero.
+ * the call. A refusal is number != 0. A refused call (any cause but 7) leaves
+ * all lent memory as it was. 7 leaves the receiving buffer all zero.
+ *
+ * Compare structs field by field: nb_state, nb_wrote, nb_got, nb_spaced and
+ * nb_tally have padding, whose bytes are nobody's, so memcmp on them can tell
+ * equal answers apart.
  *
  * The library keeps nothing between calls. A call takes at most 64 KiB of
  * stack, whatever the image (measured, not proved), so that a thread with a
@@ -301,7 +305,22 @@ typedef struct {
  * ends, after NB_RECORD_BLOCKS blocks without its last, at a block that does
  * not open and at one of another kind. 1, 2, 8; refused, next is p. Writes the
  * first NB_RECORD_MAX bytes of the buffer, and only when not refused: a record
- * and zeros behind it, or zeros alone. */
+ * and zeros behind it, or zeros alone.
+ *
+ * A walk, to copy. It stops at the end of data itself: next is p there, and a
+ * loop by next alone would not end. Else, not refused, next is above p.
+ *
+ *     for (p = 0; p < image_len / NB_BLOCK_BYTES; p = got.next) {
+ *         got = nb_read(key, NB_KEY_BYTES, id, recording, image, image_len,
+ *                       p, buffer, NB_RECORD_MAX);
+ *         if (got.number != NB_DONE)
+ *             return got.number;
+ *         if (got.outcome == NB_GOT_END)
+ *             break;
+ *         if (got.outcome == NB_GOT_RECORD)
+ *             take(buffer, got.data);
+ *     }
+ */
 NB_MUST_USE
 nb_got nb_read(const uint8_t *key, size_t key_len, uint32_t id, uint64_t recording,
                const uint8_t *image, size_t image_len, size_t p,
