@@ -17,9 +17,10 @@ static struct writer open_at(size_t position)
     return writer;
 }
 
-void side_permute(uint8_t state[64])
+unsigned side_permute(uint8_t state[64])
 {
     pi_forward(state);
+    return 0;
 }
 
 unsigned side_permute_back(uint8_t state[64])

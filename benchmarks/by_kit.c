@@ -12,9 +12,9 @@ static nb_state open_at(size_t position)
     return state;
 }
 
-void side_permute(uint8_t state[64])
+unsigned side_permute(uint8_t state[64])
 {
-    nb_permute(state, 64);
+    return nb_permute(state, 64);
 }
 
 unsigned side_permute_back(uint8_t state[64])

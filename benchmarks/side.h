@@ -13,7 +13,7 @@ enum { SIDE_ID = 7, SIDE_RECORDING = 2026, SIDE_CAPACITY = 128, SIDE_ZONE = 8 };
 
 static const uint8_t side_key[24] = "192-bit Secret Key value", side_nonce[16] = "Nonces Used Once";
 
-void side_permute(uint8_t state[64]);
+unsigned side_permute(uint8_t state[64]);
 unsigned side_permute_back(uint8_t state[64]); /* the kit alone has it; plain C gives 2 */
 
 /* No associated data; `sealed` has n + 16 bytes. The call's number. */

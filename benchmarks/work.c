@@ -40,7 +40,7 @@ static void walk(void)
     }
 }
 
-static void permute(size_t n) { (void)n; side_permute(state); }
+static void permute(size_t n) { (void)n; said[0] = side_permute(state); }
 static void back(size_t n) { (void)n; said[0] = side_permute_back(state); }
 static void seal(size_t n) { said[0] = side_seal(bytes, n, sealed); }
 static void open(size_t n) { said[0] = side_open(sealed, n, bytes); }

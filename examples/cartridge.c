@@ -15,18 +15,40 @@
 #define RECORDING 1
 
 static uint8_t image[BLOCKS * NB_BLOCK_BYTES], buffer[NB_RECORD_MAX];
-static const uint8_t key[NB_KEY_BYTES] = "192-bit Secret Key value";
+static const uint8_t key[NB_KEY_BYTES + 1] = "192-bit Secret Key value";
 
-static void walk(void)
+static int refused(const char *call, unsigned number)
 {
-    static const char *const names[] = {"record", "mark", "end", "bad", "stray", "cut"};
-    nb_got got = {0, 0, 0, 0};
+    printf("%s: refused, %u\n", call, number);
+    return 1;
+}
 
-    do {
-        size_t p = got.next;
-        got = nb_read(key, sizeof key, ID, RECORDING, image, sizeof image, p, buffer, sizeof buffer);
-        printf("%u %s %u\n", (unsigned)p, names[got.outcome], (unsigned)got.data);
-    } while (got.outcome != NB_GOT_END && got.next < BLOCKS);
+static const char *name(uint8_t outcome)
+{
+    switch (outcome) {
+    case NB_GOT_RECORD: return "record";
+    case NB_GOT_MARK: return "mark";
+    case NB_GOT_END: return "end";
+    case NB_GOT_BAD: return "bad";
+    case NB_GOT_STRAY: return "stray";
+    default: return "cut";
+    }
+}
+
+static int walk(void)
+{
+    size_t p = 0;
+
+    while (p < BLOCKS) {
+        nb_got got = nb_read(key, NB_KEY_BYTES, ID, RECORDING, image, sizeof image, p, buffer, sizeof buffer);
+        if (got.number != NB_DONE)
+            return refused("read", got.number);
+        printf("%u %s %u\n", (unsigned)p, name(got.outcome), (unsigned)got.data);
+        if (got.outcome == NB_GOT_END)
+            break;
+        p = got.next;
+    }
+    return 0;
 }
 
 int main(void)
@@ -34,14 +56,19 @@ int main(void)
     uint8_t bytes[600];
     nb_wrote wrote = nb_start(ID, RECORDING, ZONE, image, sizeof image);
 
+    if (wrote.number != NB_DONE)
+        return refused("start", wrote.number);
     memset(bytes, 0x5A, sizeof bytes);
     do {
-        wrote = nb_record(wrote.state, key, sizeof key, bytes, sizeof bytes, image, sizeof image);
+        wrote = nb_record(wrote.state, key, NB_KEY_BYTES, bytes, sizeof bytes, image, sizeof image);
+        if (wrote.number != NB_DONE)
+            return refused("record", wrote.number);
         printf("record at %u: %s\n", (unsigned)wrote.state.position, wrote.reply == NB_WARNED ? "warned" : "plain");
-    } while (wrote.reply == NB_PLAIN);
-    wrote = nb_close(wrote.state, key, sizeof key, image, sizeof image);
+    } while (wrote.reply != NB_WARNED);
+    wrote = nb_close(wrote.state, key, NB_KEY_BYTES, image, sizeof image);
+    if (wrote.number != NB_DONE)
+        return refused("close", wrote.number);
     printf("closed at %u\n", (unsigned)wrote.state.position);
     image[2 * NB_BLOCK_BYTES + 40] ^= 1;
-    walk();
-    return 0;
+    return walk();
 }

@@ -7,8 +7,8 @@
  *  - a length beyond the memory behind its pointer;
  *  - two lent parts that overlap, where the call writes into one of them;
  *  - another thread that touches lent memory during the call.
- * A part of length 0 may have any pointer that is not NULL; pass the address
- * of some byte of yours.
+ * A part of length 0 may have any pointer, NULL too: (NULL, 0) is an empty
+ * part, taken or refused as its length says.
  *
  * The owner's duty: a nonce must never come twice under one key. The calls
  * cannot see it, and sealing two messages so loses the secrecy of both. What
@@ -19,8 +19,12 @@
  *
  * A call returns a number, alone or in a struct, unless it says "no number":
  * NB_DONE when it was carried out, else the first cause in the order given at
- * the call. A refused call (any cause but 7) leaves all lent memory as it was.
- * 7 leaves the receiving buffer all zero.
+ * the call. A refusal is number != 0. A refused call (any cause but 7) leaves
+ * all lent memory as it was. 7 leaves the receiving buffer all zero.
+ *
+ * Compare structs field by field: nb_state, nb_wrote, nb_got, nb_spaced and
+ * nb_tally have padding, whose bytes are nobody's, so memcmp on them can tell
+ * equal answers apart.
  *
  * The library keeps nothing between calls. A call takes at most 64 KiB of
  * stack, whatever the image (measured, not proved), so that a thread with a
@@ -32,9 +36,23 @@
 #include <stddef.h>
 #include <stdint.h>
 
+/* A dropped answer is a bug: a refusal that nobody saw. */
+#if defined(__GNUC__)
+#define NB_MUST_USE __attribute__((warn_unused_result))
+#elif defined(__cplusplus) && __cplusplus >= 201703L
+#define NB_MUST_USE [[nodiscard]]
+#else
+#define NB_MUST_USE
+#endif
+
 #ifdef __cplusplus
 extern "C" {
 #endif
+
+/* The version of this header, and of the archive that is linked: they should be
+ * the same. No number. Writes nothing. */
+#define NB_VERSION 1
+uint32_t nb_version(void);
 
 /* The numbers. The c of an image is how many blocks it has. */
 #define NB_DONE 0
@@ -74,21 +92,25 @@ extern "C" {
 
 /* Runs the permutation over the state, in place. 2. Writes the state alone,
  * and only when it returns 0. */
+NB_MUST_USE
 uint8_t nb_permute(uint8_t *state, size_t state_len);
 
 /* Undoes nb_permute, in place. 2. Writes the state alone, and only when it
  * returns 0. */
+NB_MUST_USE
 uint8_t nb_permute_back(uint8_t *state, size_t state_len);
 
 /* Runs one round of the permutation over the state, in place: substitutes,
  * shifts and mixes, and takes in the round key, of NB_STATE_BYTES bytes, by
  * xor. 2 (state or key). Writes the state alone, and only when it returns
  * 0. */
+NB_MUST_USE
 uint8_t nb_round(uint8_t *state, size_t state_len,
                  const uint8_t *key, size_t key_len);
 
 /* Undoes nb_round with the same key, in place. 2 (state or key). Writes the
  * state alone, and only when it returns 0. */
+NB_MUST_USE
 uint8_t nb_round_back(uint8_t *state, size_t state_len,
                       const uint8_t *key, size_t key_len);
 
@@ -98,18 +120,21 @@ uint8_t nb_minibox(uint8_t x);
 
 /* Takes bytes into the state and closes the operation. No bytes are an
  * operation too. 2, 9. Writes the state alone, and only when it returns 0. */
+NB_MUST_USE
 uint8_t nb_put(uint8_t *state, size_t state_len,
                const uint8_t *bytes, size_t bytes_len, uint8_t domain);
 
 /* Fills out from the state and closes the operation; out_len is how many
  * bytes are asked for. 2, 9. Writes state and out, and only when it
  * returns 0. */
+NB_MUST_USE
 uint8_t nb_get(uint8_t *state, size_t state_len,
                uint8_t *out, size_t out_len, uint8_t domain);
 
 /* Encrypts the message into out, of the same length, and closes the operation;
  * the state goes on from the ciphertext. 2 (also where the two lengths
  * differ), 9. Writes state and out, and only when it returns 0. */
+NB_MUST_USE
 uint8_t nb_enc(uint8_t *state, size_t state_len,
                const uint8_t *message, size_t message_len,
                uint8_t *out, size_t out_len, uint8_t domain);
@@ -118,6 +143,7 @@ uint8_t nb_enc(uint8_t *state, size_t state_len,
  * operation; from the state that nb_enc began with it ends in the state that
  * nb_enc ended in. 2 (also where the two lengths differ), 9. Writes state and
  * out, and only when it returns 0. */
+NB_MUST_USE
 uint8_t nb_dec(uint8_t *state, size_t state_len,
                const uint8_t *cipher, size_t cipher_len,
                uint8_t *out, size_t out_len, uint8_t domain);
@@ -127,6 +153,7 @@ uint8_t nb_dec(uint8_t *state, size_t state_len,
  * covered by the tag and not stored. 2 (key, nonce or out), 9 (data above
  * NB_DATA_MAX or message above NB_MESSAGE_MAX). Writes out alone, and only
  * when it returns 0. */
+NB_MUST_USE
 uint8_t nb_seal(const uint8_t *key, size_t key_len,
                 const uint8_t *nonce, size_t nonce_len,
                 const uint8_t *data, size_t data_len,
@@ -138,6 +165,7 @@ uint8_t nb_seal(const uint8_t *key, size_t key_len,
  * processing. 2 (key, nonce, out, or sealed_len under NB_TAG_BYTES), 9 (data
  * above NB_DATA_MAX or sealed_len above NB_MESSAGE_MAX + NB_TAG_BYTES), 7.
  * Writes out alone: the message on 0, zeros on 7, nothing on 2 and 9. */
+NB_MUST_USE
 uint8_t nb_open(const uint8_t *key, size_t key_len,
                 const uint8_t *nonce, size_t nonce_len,
                 const uint8_t *data, size_t data_len,
@@ -193,6 +221,7 @@ typedef struct {
 /* Begins a recording: fills the image with zeros and gives an open state at
  * position 0. 1, 3; refused, the state is all zeros but for closed, which is 1,
  * and no image takes it (8). Writes the image, and only when not refused. */
+NB_MUST_USE
 nb_wrote nb_start(uint32_t id, uint64_t recording, size_t zone,
                   uint8_t *image, size_t image_len);
 
@@ -201,6 +230,7 @@ nb_wrote nb_start(uint32_t id, uint64_t recording, size_t zone,
  * the position afterwards is above capacity - zone. 1, 2, 8, 6, 4, 5; refused,
  * the state comes back as it was given, every field of it. Writes its own
  * blocks of the image, and only when not refused. */
+NB_MUST_USE
 nb_wrote nb_record(nb_state state, const uint8_t *key, size_t key_len,
                    const uint8_t *bytes, size_t bytes_len,
                    uint8_t *image, size_t image_len);
@@ -208,6 +238,7 @@ nb_wrote nb_record(nb_state state, const uint8_t *key, size_t key_len,
 /* Writes a file mark, one block, at the position. 1, 2, 8, 6, 5; refused, the
  * state comes back as it was given. Writes its own block of the image, and
  * only when not refused. */
+NB_MUST_USE
 nb_wrote nb_mark(nb_state state, const uint8_t *key, size_t key_len,
                  uint8_t *image, size_t image_len);
 
@@ -215,6 +246,7 @@ nb_wrote nb_mark(nb_state state, const uint8_t *key, size_t key_len,
  * while it is open there is always room. 1, 2, 8, 6; refused, the state comes
  * back as it was given. Writes its own block of the image, and only when not
  * refused. */
+NB_MUST_USE
 nb_wrote nb_close(nb_state state, const uint8_t *key, size_t key_len,
                   uint8_t *image, size_t image_len);
 
@@ -273,7 +305,23 @@ typedef struct {
  * ends, after NB_RECORD_BLOCKS blocks without its last, at a block that does
  * not open and at one of another kind. 1, 2, 8; refused, next is p. Writes the
  * first NB_RECORD_MAX bytes of the buffer, and only when not refused: a record
- * and zeros behind it, or zeros alone. */
+ * and zeros behind it, or zeros alone.
+ *
+ * A walk, to copy. It stops at the end of data itself: next is p there, and a
+ * loop by next alone would not end. Else, not refused, next is above p.
+ *
+ *     for (p = 0; p < image_len / NB_BLOCK_BYTES; p = got.next) {
+ *         got = nb_read(key, NB_KEY_BYTES, id, recording, image, image_len,
+ *                       p, buffer, NB_RECORD_MAX);
+ *         if (got.number != NB_DONE)
+ *             return got.number;
+ *         if (got.outcome == NB_GOT_END)
+ *             break;
+ *         if (got.outcome == NB_GOT_RECORD)
+ *             take(buffer, got.data);
+ *     }
+ */
+NB_MUST_USE
 nb_got nb_read(const uint8_t *key, size_t key_len, uint32_t id, uint64_t recording,
                const uint8_t *image, size_t image_len, size_t p,
                uint8_t *buffer, size_t buffer_len);
@@ -281,26 +329,31 @@ nb_got nb_read(const uint8_t *key, size_t key_len, uint32_t id, uint64_t recordi
 /* The record that nb_read left in the buffer, by its length: the front part, or
  * the empty part at the front where length is above buffer_len. No number.
  * Writes nothing. */
+NB_MUST_USE
 nb_part nb_record_part(const uint8_t *buffer, size_t buffer_len, size_t length);
 
 /* Block p as it stands in the image, unopened: its NB_BLOCK_BYTES bytes; where
  * it is refused, the empty part at the front. No number: nb_look_number tells
  * why. Writes nothing. */
+NB_MUST_USE
 nb_part nb_look(const uint8_t *image, size_t image_len, size_t p);
 
 /* The number of nb_look with the same arguments. 1, 8. Writes nothing. */
+NB_MUST_USE
 uint8_t nb_look_number(const uint8_t *image, size_t image_len, size_t p);
 
 /* Reads on from position p past n file marks. At: the position behind the nth
  * mark, which may be c; for n = 0 it is p, unread. Short: the marks passed, and
  * the place of the end of data, or c where none came. 1, 2, 8; refused, the
  * position is p. Writes nothing. */
+NB_MUST_USE
 nb_spaced nb_space(const uint8_t *key, size_t key_len, uint32_t id, uint64_t recording,
                    const uint8_t *image, size_t image_len, size_t p, size_t n);
 
 /* Counts the outcomes of the walk: the reads from 0 on, each at the next of
  * the one before, up to the end of data or c. 1, 2; refused, all counts are
  * zero. Writes nothing. */
+NB_MUST_USE
 nb_tally nb_report(const uint8_t *key, size_t key_len, uint32_t id, uint64_t recording,
                    const uint8_t *image, size_t image_len);
 

@@ -239,8 +239,70 @@ static void reading(void)
     IS(nb_space(key, sizeof key, 1, 1, image, sizeof image, BLOCKS, 0).kind == NB_SPACED_REFUSED);
 }
 
+/* An empty part as (NULL, 0), for every slice of every call: taken or refused as its length says. */
+static void nothing_sealed(void)
+{
+    uint8_t here[NB_STATE_BYTES] = {0}, there[NB_STATE_BYTES] = {0}, one[1] = {7}, tag[NB_TAG_BYTES], same[NB_TAG_BYTES], sealed[1 + NB_TAG_BYTES];
+
+    IS(nb_permute(NULL, 0) == NB_WRONG_LENGTH && nb_permute_back(NULL, 0) == NB_WRONG_LENGTH);
+    IS(nb_round(NULL, 0, here, sizeof here) == NB_WRONG_LENGTH && nb_round(here, sizeof here, NULL, 0) == NB_WRONG_LENGTH);
+    IS(nb_round_back(NULL, 0, here, sizeof here) == NB_WRONG_LENGTH && nb_round_back(here, sizeof here, NULL, 0) == NB_WRONG_LENGTH);
+
+    IS(nb_put(NULL, 0, one, 1, 0) == NB_WRONG_LENGTH && nb_get(NULL, 0, one, 1, 0) == NB_WRONG_LENGTH);
+    IS(nb_enc(NULL, 0, one, 1, tag, 1, 0) == NB_WRONG_LENGTH && nb_dec(NULL, 0, one, 1, tag, 1, 0) == NB_WRONG_LENGTH);
+    IS(nb_enc(here, sizeof here, NULL, 0, one, 1, 0) == NB_WRONG_LENGTH && nb_enc(here, sizeof here, one, 1, NULL, 0, 0) == NB_WRONG_LENGTH);
+    IS(nb_dec(here, sizeof here, NULL, 0, one, 1, 0) == NB_WRONG_LENGTH && nb_dec(here, sizeof here, one, 1, NULL, 0, 0) == NB_WRONG_LENGTH);
+    IS(memcmp(here, there, sizeof here) == 0 && one[0] == 7);
+    IS(nb_put(here, sizeof here, NULL, 0, 1) == NB_DONE && nb_put(there, sizeof there, one, 0, 1) == NB_DONE);
+    IS(nb_get(here, sizeof here, NULL, 0, 2) == NB_DONE && nb_get(there, sizeof there, one, 0, 2) == NB_DONE);
+    IS(nb_enc(here, sizeof here, NULL, 0, NULL, 0, 3) == NB_DONE && nb_enc(there, sizeof there, one, 0, tag, 0, 3) == NB_DONE);
+    IS(nb_dec(here, sizeof here, NULL, 0, NULL, 0, 4) == NB_DONE && nb_dec(there, sizeof there, one, 0, tag, 0, 4) == NB_DONE);
+    IS(memcmp(here, there, sizeof here) == 0 && one[0] == 7);
+
+    IS(nb_seal(NULL, 0, nonce, 16, NULL, 0, NULL, 0, tag, sizeof tag) == NB_WRONG_LENGTH);
+    IS(nb_seal(key, 24, NULL, 0, NULL, 0, NULL, 0, tag, sizeof tag) == NB_WRONG_LENGTH);
+    IS(nb_seal(key, 24, nonce, 16, NULL, 0, NULL, 0, NULL, 0) == NB_WRONG_LENGTH);
+    IS(nb_seal(NULL, 0, NULL, 0, NULL, 0, NULL, 0, NULL, 0) == NB_WRONG_LENGTH);
+    IS(nb_seal(key, 24, nonce, 16, NULL, 0, NULL, 0, tag, sizeof tag) == NB_DONE);
+    IS(nb_seal(key, 24, nonce, 16, one, 0, one, 0, same, sizeof same) == NB_DONE && memcmp(tag, same, sizeof tag) == 0);
+    IS(nb_seal(key, 24, nonce, 16, NULL, 0, one, 1, sealed, sizeof sealed) == NB_DONE);
+    IS(nb_open(NULL, 0, nonce, 16, NULL, 0, tag, sizeof tag, NULL, 0) == NB_WRONG_LENGTH);
+    IS(nb_open(key, 24, NULL, 0, NULL, 0, tag, sizeof tag, NULL, 0) == NB_WRONG_LENGTH);
+    IS(nb_open(key, 24, nonce, 16, NULL, 0, NULL, 0, NULL, 0) == NB_WRONG_LENGTH);
+    IS(nb_open(key, 24, nonce, 16, NULL, 0, sealed, sizeof sealed, NULL, 0) == NB_WRONG_LENGTH);
+    IS(nb_open(key, 24, nonce, 16, NULL, 0, sealed, sizeof sealed, one, 1) == NB_DONE && one[0] == 7);
+    IS(nb_open(key, 24, nonce, 16, NULL, 0, tag, sizeof tag, NULL, 0) == NB_DONE);
+    tag[0] ^= 1;
+    IS(nb_open(key, 24, nonce, 16, NULL, 0, tag, sizeof tag, NULL, 0) == NB_WRONG_TAG);
+}
+
+static void nothing_recorded(void)
+{
+    static const nb_state none = {0, 0, 0, 0, 0, 1};
+    nb_state s = nb_start(1, 2, 3, image, sizeof image).state;
+    nb_part part = nb_record_part(NULL, 0, 5), look = nb_look(NULL, 0, 0);
+
+    IS(s.capacity == BLOCKS && refused(nb_start(1, 2, 3, NULL, 0), NB_WRONG_IMAGE, none));
+    IS(refused(nb_record(s, NULL, 0, buffer, 1, image, sizeof image), NB_WRONG_LENGTH, s));
+    IS(refused(nb_record(s, key, sizeof key, NULL, 0, image, sizeof image), NB_WRONG_RECORD, s));
+    IS(refused(nb_record(s, key, sizeof key, buffer, 1, NULL, 0), NB_WRONG_IMAGE, s));
+    IS(refused(nb_mark(s, NULL, 0, image, sizeof image), NB_WRONG_LENGTH, s) && refused(nb_mark(s, key, sizeof key, NULL, 0), NB_WRONG_IMAGE, s));
+    IS(refused(nb_close(s, NULL, 0, image, sizeof image), NB_WRONG_LENGTH, s) && refused(nb_close(s, key, sizeof key, NULL, 0), NB_WRONG_IMAGE, s));
+
+    IS(nb_read(NULL, 0, 1, 2, image, sizeof image, 0, buffer, sizeof buffer).number == NB_WRONG_LENGTH);
+    IS(nb_read(key, sizeof key, 1, 2, NULL, 0, 0, buffer, sizeof buffer).number == NB_WRONG_IMAGE);
+    IS(nb_read(key, sizeof key, 1, 2, image, sizeof image, 0, NULL, 0).number == NB_WRONG_LENGTH);
+    IS(part.offset == 0 && part.length == 0 && nb_record_part(NULL, 0, 0).length == 0);
+    IS(look.offset == 0 && look.length == 0 && nb_look_number(NULL, 0, 0) == NB_WRONG_IMAGE);
+    IS(nb_space(NULL, 0, 1, 2, image, sizeof image, 0, 0).number == NB_WRONG_LENGTH);
+    IS(nb_space(key, sizeof key, 1, 2, NULL, 0, 0, 1).number == NB_WRONG_IMAGE);
+    IS(nb_report(NULL, 0, 1, 2, image, sizeof image).number == NB_WRONG_LENGTH);
+    IS(nb_report(key, sizeof key, 1, 2, NULL, 0).number == NB_WRONG_IMAGE);
+}
+
 int main(void)
 {
+    IS(nb_version() == NB_VERSION);
     IS(NB_IMAGE_FEWEST == 4 && NB_IMAGE_MOST == 128 && NB_RATE_BYTES == 32 && NB_DOMAIN_NONCE == 0x20 && NB_DOMAIN_DATA == 0x40);
     IS(NB_RECORD_BLOCKS * NB_BLOCK_PAYLOAD == NB_RECORD_MAX);
     permutation();
@@ -252,6 +314,8 @@ int main(void)
     unlawful(writing());
     one_block();
     reading();
+    nothing_sealed();
+    nothing_recorded();
     if (faults == 0)
         puts("tests/kit.c: every call answers as it should");
     return faults != 0;

@@ -201,6 +201,12 @@ pub fn round_back(state: &mut [u8], key: &[u8]) -> Result<(), Cause> {
     done(raw::round_back(state, key))
 }
 
+/// The version of the archive that is linked: the header's `NB_VERSION` when it was built.
+#[must_use]
+pub fn version() -> u32 {
+    raw::version()
+}
+
 /// The substitution table's entry for a byte.
 #[must_use]
 pub fn minibox(x: u8) -> u8 {

@@ -69,6 +69,7 @@ pub struct NbTally {
 
 #[rustfmt::skip]
 extern "C" {
+    fn nb_version() -> u32;
     fn nb_permute(state: *mut u8, state_len: usize) -> u8;
     fn nb_permute_back(state: *mut u8, state_len: usize) -> u8;
     fn nb_round(state: *mut u8, state_len: usize, key: *const u8, key_len: usize) -> u8;
@@ -93,6 +94,10 @@ extern "C" {
     fn nb_look_number(image: *const u8, image_len: usize, p: usize) -> u8;
     fn nb_space(key: *const u8, key_len: usize, id: u32, recording: u64, image: *const u8, image_len: usize, p: usize, n: usize) -> NbSpaced;
     fn nb_report(key: *const u8, key_len: usize, id: u32, recording: u64, image: *const u8, image_len: usize) -> NbTally;
+}
+
+pub fn version() -> u32 {
+    unsafe { nb_version() }
 }
 
 pub fn permute(state: &mut [u8]) -> u8 {

@@ -70,6 +70,7 @@ fn permutes_and_back() {
     assert_eq!(round_back(&mut whole, &rounds), Ok(()));
     assert_eq!(whole, before);
     assert_eq!((minibox(0x00), minibox(0x80)), (0x18, 0x97));
+    assert_eq!(version(), 1);
 }
 
 #[test]

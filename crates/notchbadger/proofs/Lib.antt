@@ -1,1 +1,2 @@
 -- What crosses to C: a folder for each room.
+pub mod Unique
