@@ -9,7 +9,7 @@
 #define BLOCKS 8
 #define ZONE 3
 
-/* As the scope prints it. */
+/* As it was agreed on. */
 static const char listing[] =
     "record 5 1 plain\n"
     "record 489 3 plain\n"

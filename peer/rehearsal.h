@@ -4,7 +4,7 @@
 
 #include <stdio.h>
 
-/* Returns 0, or 1 where the writer's listing is not the one of the scope. */
+/* Returns 0, or 1 where the writer's listing is not the one that was agreed on. */
 int rehearsal_stdout(FILE *to);
 
 #endif

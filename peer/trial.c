@@ -1,4 +1,4 @@
-/* The peer's writer and reader on trial: the scope's edges, the damaged and
+/* The peer's writer and reader on trial: the format's edges, the damaged and
  * the forged chain, and random recordings played back. Exit 0 if all hold. */
 #include <stdio.h>
 #include <string.h>

@@ -205,7 +205,7 @@ static void print_trace(FILE *to)
     }
 }
 
-/* Image sizes at the edges, each with the number that 01 names for a start with zone 1: 4 to 128 whole blocks are taken. */
+/* Image sizes at the edges, each with the number that NUMBERS has for a start with zone 1: 4 to 128 whole blocks are taken. */
 static const struct {
     size_t bytes;
     uint8_t number;

@@ -23,7 +23,7 @@
 
 #include <stdio.h>
 
-/* Each returns 0, or 1 where a published number, or one that 01 names, is missed. */
+/* Each returns 0, or 1 where a published number, or one that NUMBERS has, is missed. */
 int vectors_stdin(FILE *to);
 int vectors_stdout(FILE *to);
 

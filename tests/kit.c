@@ -1,5 +1,5 @@
 /* Links the static library by its header alone and calls every function, valid and refused; holds the header's constants against what the
- * calls do. Prints what fails and exits 1, else one line and 0. What the calls should answer is 01's word, not the library's. */
+ * calls do. Prints what fails and exits 1, else one line and 0. What the calls should answer is the word of docs/FORMAT.md and docs/NUMBERS.md, not the library's. */
 #include <stdio.h>
 #include <stdlib.h>
 #include <string.h>
@@ -146,7 +146,7 @@ static void starting(void)
     IS(w.state.zone == 3 && w.state.position == 0 && w.state.closed == 0);
 }
 
-/* The rehearsal of 01. */
+/* The rehearsal. */
 static nb_state writing(void)
 {
     nb_state s = nb_start(1, 1, 3, image, sizeof image).state;
@@ -192,7 +192,7 @@ static void unlawful(nb_state s)
     IS(memcmp(before, image, sizeof before) == 0);
 }
 
-/* A single block by hand: the mark that the rehearsal wrote at 3 is 01's eight bytes and what nb_seal gives under 01's nonce. */
+/* A single block by hand: the mark that the rehearsal wrote at 3 is docs/FORMAT.md's eight bytes and what nb_seal gives under its nonce. */
 static void one_block(void)
 {
     static const uint8_t front[8] = {0, 0, 0, 3, 3, 0, 0, 0}, payload[NB_BLOCK_PAYLOAD] = {0};

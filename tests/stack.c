@@ -106,7 +106,7 @@ static void big_endian(uint8_t *at, int n, size_t x)
     }
 }
 
-/* Block p of 01's table under id 1 and recording 1, with 488 bytes of zeros; a record's block that is not its last has byte 5 clear. */
+/* Block p as docs/FORMAT.md has it, under id 1 and recording 1, with 488 bytes of zeros; a record's block that is not its last has byte 5 clear. */
 static void lay(size_t p, uint8_t kind, uint8_t last)
 {
     uint8_t *block = image + p * NB_BLOCK_BYTES, number[NB_NONCE_BYTES] = {0, 0, 0, 1, 0, 0, 0, 0, 0, 0, 0, 1};

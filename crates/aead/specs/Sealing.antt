@@ -1,4 +1,4 @@
--- Sealing and opening (01, "Padding and sealing" and "Numbers a caller can get back"; the paper, 1.2.2); what a call promises.
+-- Sealing and opening (FORMAT, "Sealing and opening"; NUMBERS; the paper, 1.2.2); what a call promises.
 use mathlib.Core.Path.{_≡_}
 use mathlib.Core.Bool.{Bool, _&&_}
 use mathlib.Core.List.{List, _++_}

@@ -1,4 +1,4 @@
--- What opens at a place (01, "The cartridge image"): nothing; a record's following block, with byte 5 and the bytes used; or a block at
+-- What opens at a place (FORMAT, "The cartridge image"): nothing; a record's following block, with byte 5 and the bytes used; or a block at
 -- which something begins: a record's first block, a file mark, end of data.
 use mathlib.Core.Path.{_≡_}
 use mathlib.Core.Bool.{Bool, true, false}

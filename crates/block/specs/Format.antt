@@ -1,4 +1,4 @@
--- The 512 bytes of a block at its place (01, "The cartridge image"): numbers big-endian, header 8, payload 488, tag 16.
+-- The 512 bytes of a block at its place (FORMAT, "The cartridge image"): numbers big-endian, header 8, payload 488, tag 16.
 use mathlib.Core.Bool.{Bool, true, _&&_}
 use mathlib.Core.List.{List, [], _∷_, _++_}
 use Prim.Native.Nat.{ℕ, _+_, _*_, _/_, _%_}

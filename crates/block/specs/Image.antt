@@ -1,4 +1,4 @@
--- An image as 512-byte blocks (01, "The cartridge image"), and what a key shows of it.
+-- An image as 512-byte blocks (FORMAT, "The cartridge image"), and what a key shows of it.
 use mathlib.Core.Bool.{Bool, _&&_}
 use mathlib.Core.List.{List, [], _∷_}
 use Prim.Native.Nat.{ℕ, suc, _*_, _/_, _%_}

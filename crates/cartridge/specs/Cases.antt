@@ -1,4 +1,4 @@
--- The cases at the edges that 01 marks P, one table: what the definitions give, and what the page says.
+-- Cases at the edges, P1 to P12, in one table: what the definitions give, and what FORMAT and NUMBERS say.
 use mathlib.Core.Bool.{false}
 use mathlib.Core.List.{List, [], _∷_}
 use Prim.Native.Nat.{ℕ, _-_}

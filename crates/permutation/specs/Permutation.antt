@@ -1,4 +1,4 @@
--- The steps of the state (01, "The permutation"; the paper, 1.1), 64 bytes of which byte 8i + j is row i, column j; a round; the
+-- The steps of the state (FORMAT, "The permutation π"; the paper, 1.1), 64 bytes of which byte 8i + j is row i, column j; a round; the
 -- permutation and its inverse; what a call promises.
 use mathlib.Core.Path.{_≡_}
 use mathlib.Core.Bool.{Bool, _&&_}

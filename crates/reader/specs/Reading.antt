@@ -1,4 +1,4 @@
--- What the reader's calls promise (01, "Reading" and "Numbers a caller can get back").
+-- What the reader's calls promise (FORMAT, "Reading"; NUMBERS).
 use mathlib.Core.Path.{_≡_}
 use mathlib.Core.List.{List, [], _++_}
 use Prim.Native.Nat.{ℕ, _-_, _*_}

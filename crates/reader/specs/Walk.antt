@@ -1,4 +1,4 @@
--- A read, and the walk (01, "Reading"), over what the places of a cartridge of c blocks show.
+-- A read, and the walk (FORMAT, "Reading"), over what the places of a cartridge of c blocks show.
 use mathlib.Core.Bool.{Bool, true, false}
 use mathlib.Core.List.{List, [], _∷_, _++_}
 use Prim.Native.Nat.{ℕ, zero, suc, _-_, min}

@@ -1,4 +1,4 @@
--- The four BLNK block operations (01, "Padding and sealing"; the paper, 1.2.1), by groups of 32 bytes; what a call promises.
+-- The four BLNK block operations (FORMAT, "Block operations"; the paper, 1.2.1), by groups of 32 bytes; what a call promises.
 use mathlib.Core.Path.{_≡_}
 use mathlib.Core.Bool.{Bool, true, false, _&&_}
 use mathlib.Core.List.{List, [], _++_}

@@ -1,4 +1,4 @@
--- What a walk's visits say (01, "Reading"): its marks and its end, the answer that spacing gives by them, and how many there are of each outcome.
+-- What a walk's visits say (FORMAT, "Reading"): its marks and its end, the answer that spacing gives by them, and how many there are of each outcome.
 use mathlib.Core.List.{List, [], _∷_}
 use Prim.Native.Nat.{ℕ, suc, _+_, _-_}
 use lib.Dec.{eqb, leb}

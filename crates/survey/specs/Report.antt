@@ -1,4 +1,4 @@
--- The report (01, "Reading" and "Numbers a caller can get back"): the answers of the walk, counted by outcome.
+-- The report (FORMAT, "Reading"; NUMBERS): the answers of the walk, counted by outcome.
 use mathlib.Core.List.{List, [], _∷_}
 use Prim.Native.Nat.{ℕ, _+_}
 use lib.Dec.{eqb}

@@ -1,4 +1,4 @@
--- Spacing over file marks (01, "Reading" and "Numbers a caller can get back"): read after read from a place, the marks among them counted.
+-- Spacing over file marks (FORMAT, "Reading"; NUMBERS): read after read from a place, the marks among them counted.
 use mathlib.Core.Path.{_≡_}
 use mathlib.Core.List.{List}
 use Prim.Native.Nat.{ℕ, zero, suc, _+_, _-_}

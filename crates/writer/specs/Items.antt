@@ -1,4 +1,4 @@
--- Records and file marks, and the blocks that each takes (01, "The cartridge image" and "Writing").
+-- Records and file marks, and the blocks that each takes (FORMAT, "The cartridge image" and "Writing").
 use mathlib.Core.Bool.{Bool, true, false}
 use mathlib.Core.List.{List, [], _∷_, _++_}
 use Prim.Native.Nat.{ℕ, zero, suc, _+_, _*_, _/_}

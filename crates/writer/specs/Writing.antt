@@ -1,4 +1,4 @@
--- The writer (01, "Writing" and "Numbers a caller can get back"): a state and an image go in, a state, an answer and an image come out.
+-- The writer (FORMAT, "Writing"; NUMBERS): a state and an image go in, a state, an answer and an image come out.
 use mathlib.Core.Path.{_≡_}
 use mathlib.Core.Bool.{Bool, true, false, not, _&&_}
 use mathlib.Core.List.{List, [], _∷_}
@@ -42,7 +42,7 @@ lengthOk fmark = true
 unfoldable pub room : ℕ → ℕ → ℕ → Bool
 room c p k = ltb (p + k) c
 
--- ---- numbers, in the order of 01
+-- ---- numbers, in the order of NUMBERS
 unfoldable pub startNumber : List ℕ → ℕ → ℕ
 startNumber image e = firstOf (imageOk image) 1 (firstOf (zoneOk (capacityOf image) e) 3 0)
 
