@@ -1,0 +1,3 @@
+-- What is true of the picture.
+pub mod PictureLaws
+pub mod Unique

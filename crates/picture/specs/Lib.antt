@@ -1,0 +1,3 @@
+-- What the picture of a cartridge is.
+pub mod Picture
+pub mod Steps
