@@ -1,4 +1,5 @@
-# make                                builds the archive and the programs (rt)
+# make                                proves every crate, builds the archive and the programs (rt)
+# make demo                           proves and builds what it needs, writes a cartridge, spoils it and walks it
 # make check                          the test command
 # make install PREFIX=.. DESTDIR=..   copies what was built; needs no network, and root only where the folders do
 # make uninstall PREFIX=.. DESTDIR=.. removes exactly that
@@ -13,8 +14,12 @@ installed = include/notchbadger.h lib/libnotchbadger.a lib/pkgconfig/notchbadger
 	share/man/man1/walk.1 share/man/man3/notchbadger.3
 
 all:
+	programs/prove
 	rt staticlib notchbadger
-	rt check
+	programs/build
+
+demo:
+	@programs/demo
 
 check:
 	./check
@@ -36,4 +41,4 @@ install:
 uninstall:
 	for file in $(installed); do rm -f "$(to)/$$file" || exit 1; done
 
-.PHONY: all check install uninstall
+.PHONY: all demo check install uninstall

@@ -5,7 +5,6 @@
 #include "format.h"
 #include "rehearsal.h"
 #include "vectors.h"
-#include "walk.h"
 
 static const struct {
     const char *name;
@@ -14,9 +13,6 @@ static const struct {
     {"vectors.stdin", vectors_stdin},
     {"vectors.stdout", vectors_stdout},
     {"rehearse.stdout", rehearsal_stdout},
-    {"walk.stdout", walk_stdout},
-    {"walk.data/reel", walk_image},
-    {"walk.data/key", walk_key},
     {"docs.FORMAT", format_block},
 };
 

@@ -7,49 +7,54 @@ use writer::Reply;
 
 const DIGITS: [u8; 16] = *b"0123456789ABCDEF";
 
-// ---- Writing.
-pub fn say(text: &[u8]) {
-    io::write_all(STDOUT_FILENO, text);
+// ---- Writing. Each answers whether all of it could be written.
+pub fn say(text: &[u8]) -> bool {
+    io::write_all(STDOUT_FILENO, text)
 }
 
-pub fn line_end() {
-    say(b"\n");
+pub fn line_end() -> bool {
+    say(b"\n")
 }
 
-pub fn decimal(n: u64) {
-    io::print_decimal(STDOUT_FILENO, n);
+pub fn decimal(n: u64) -> bool {
+    io::print_decimal(STDOUT_FILENO, n)
 }
 
 // A text and the number behind it.
-pub fn named(name: &[u8], n: u64) {
-    say(name);
-    decimal(n);
+pub fn named(name: &[u8], n: u64) -> bool {
+    if say(name) {
+        return decimal(n);
+    }
+    false
 }
 
 // A number behind a space.
-pub fn spaced(n: u64) {
-    named(b" ", n);
+pub fn spaced(n: u64) -> bool {
+    named(b" ", n)
 }
 
 fn digit(n: u8) -> u8 {
     DIGITS[(n % 16) as usize]
 }
 
-pub fn hex_byte(b: u8) {
+pub fn hex_byte(b: u8) -> bool {
     let pair = [digit(b / 16), digit(b)];
-    say(&pair);
+    say(&pair)
 }
 
-pub fn hex(bytes: &[u8]) {
+pub fn hex(bytes: &[u8]) -> bool {
     let mut i: usize = 0;
     while i < bytes.len() {
-        hex_byte(bytes[i]);
+        if !hex_byte(bytes[i]) {
+            return false;
+        }
         i += 1;
     }
+    true
 }
 
 // The result of a writer's call, as a line ends with it.
-pub fn result(reply: Reply) {
+pub fn result(reply: Reply) -> bool {
     match reply {
         Reply::Plain => say(b" plain\n"),
         Reply::Warned => say(b" warned\n"),
@@ -57,9 +62,11 @@ pub fn result(reply: Reply) {
     }
 }
 
-fn refused(n: u8) {
-    named(b" refused ", n as u64);
-    line_end();
+fn refused(n: u8) -> bool {
+    if named(b" refused ", n as u64) {
+        return line_end();
+    }
+    false
 }
 
 // ---- Reading.

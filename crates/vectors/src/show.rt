@@ -43,10 +43,10 @@ fn show_ends(bytes: &[u8])
 }
 
 fn show_bytes(bytes: &[u8]) {
-    if bytes.len() <= 80 {
-        return print::hex(bytes);
+    if 80 < bytes.len() {
+        return show_ends(bytes);
     }
-    show_ends(bytes);
+    print::hex(bytes);
 }
 
 // A buffer by its name: whole up to 80 bytes, else its ends and its sum.

@@ -33,6 +33,9 @@ loop-again c = omega arith
 returns : tie.Need-returns Inv-loop μ-loop
 returns c = tt
 
+returns-2 : tie.Need-returns-2 Inv-loop μ-loop
+returns-2 c = tt
+
 pub hex-spec : {M : Type 1} → statement M
 hex-spec =
     tie.close
@@ -42,7 +45,8 @@ hex-spec =
     loop-holds
     shared-slice-read-hex-byte
     hex-byte-requires
+    returns
     add-i
     loop-less
     loop-again
-    returns)
+    returns-2)

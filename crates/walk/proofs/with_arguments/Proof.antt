@@ -6,7 +6,7 @@ use Rattle.walk.proofs.with_arguments.Statement.{statement}
 use Rattle.walk.proofs.with_arguments.Tie as tie
 
 argument-requires : tie.Need-argument-requires
-argument-requires c κs = tt
+argument-requires c κs = search needs
 
 enum-known-id : tie.Need-enum-known-id
 enum-known-id c = search needs
@@ -15,34 +15,34 @@ cast-with-id : tie.Need-cast-with-id
 cast-with-id c = omega (arith, rw (c .before .id .given .1) at (c .before .before .before .argument .ensures))
 
 with-id-requires : tie.Need-with-id-requires
-with-id-requires c κs = tt
+with-id-requires c κs = search needs
 
 enum-told : tie.Need-enum-told
 enum-told c = search needs
 
-slice-aggregate-say : tie.Need-slice-aggregate-say
-slice-aggregate-say c = search needs
+slice-aggregate-wrong-id : tie.Need-slice-aggregate-wrong-id
+slice-aggregate-wrong-id c = search needs
 
-say-requires : tie.Need-say-requires
-say-requires c κs = tt
+wrong-id-requires : tie.Need-wrong-id-requires
+wrong-id-requires c κs = search needs
 
 enum-told-2 : tie.Need-enum-told-2
 enum-told-2 c = search needs
 
-slice-aggregate-say-2 : tie.Need-slice-aggregate-say-2
-slice-aggregate-say-2 c = search needs
+slice-aggregate-wrong-id-2 : tie.Need-slice-aggregate-wrong-id-2
+slice-aggregate-wrong-id-2 c = search needs
 
-say-requires-2 : tie.Need-say-requires-2
-say-requires-2 c κs = tt
+wrong-id-requires-2 : tie.Need-wrong-id-requires-2
+wrong-id-requires-2 c κs = search needs
 
 returns : tie.Need-returns
-returns c = tt
+returns c = search needs
 
 returns-2 : tie.Need-returns-2
-returns-2 c = tt
+returns-2 c = search needs
 
 returns-3 : tie.Need-returns-3
-returns-3 c = tt
+returns-3 c = search needs
 
 pub with-arguments-spec : {M : Type 1} → statement M
 with-arguments-spec =
@@ -53,11 +53,11 @@ with-arguments-spec =
     cast-with-id
     with-id-requires
     enum-told
-    slice-aggregate-say
-    say-requires
+    slice-aggregate-wrong-id
+    wrong-id-requires
     enum-told-2
-    slice-aggregate-say-2
-    say-requires-2
+    slice-aggregate-wrong-id-2
+    wrong-id-requires-2
     returns
     returns-2
     returns-3)

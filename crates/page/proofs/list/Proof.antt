@@ -1,9 +1,9 @@
--- `walk::walk` is safe and ends.
+-- `page::list` is safe and ends.
 -- Assumes nothing.
 use Prim.Native.Nat.{_-_, _≤_}
 use native.Mathlib.Omega.{arith}
-use Rattle.walk.proofs.walk.Statement.{statement}
-use Rattle.walk.proofs.walk.Tie as tie
+use Rattle.page.proofs.list.Statement.{statement}
+use Rattle.page.proofs.list.Tie as tie
 
 abbrev Inv-loop : tie.InvT-loop
 Inv-loop key id recording image p₀ i₀ p i = i ≤ 128
@@ -20,6 +20,9 @@ returns c = tt
 visit-requires : tie.Need-visit-requires Inv-loop μ-loop
 visit-requires c κs = tt
 
+returns-2 : tie.Need-returns-2 Inv-loop μ-loop
+returns-2 c = tt
+
 add-i : tie.Need-add-i Inv-loop μ-loop
 add-i c = omega arith
 
@@ -29,11 +32,11 @@ loop-less c = omega arith
 loop-again : tie.Need-loop-again Inv-loop μ-loop
 loop-again c = omega arith
 
-returns-2 : tie.Need-returns-2 Inv-loop μ-loop
-returns-2 c = tt
+returns-3 : tie.Need-returns-3 Inv-loop μ-loop
+returns-3 c = tt
 
-pub walk-spec : {M : Type 1} → statement M
-walk-spec =
+pub list-spec : {M : Type 1} → statement M
+list-spec =
     tie.close
     (tie.spec
     Inv-loop
@@ -41,7 +44,8 @@ walk-spec =
     loop-holds
     returns
     visit-requires
+    returns-2
     add-i
     loop-less
     loop-again
-    returns-2)
+    returns-3)

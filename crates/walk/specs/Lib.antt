@@ -1,0 +1,2 @@
+-- What the program promises: the status that it ends with.
+pub mod Status
