@@ -103,13 +103,13 @@ fn is_line(text: &[u8]) -> bool {
     text[KEY_BYTES] == 10
 }
 
-// More than this of a key file is not read.
-const KEY_LIMIT: usize = 64;
+// Of a key file this much is read, and told: a key in hexadecimal too.
+pub const KEY_SHOWN: usize = 64;
 
 fn wrong_key(key: &[u8]) {
     put(b"walk: the key ");
     put_argument(2);
-    put_size(key.len(), KEY_LIMIT);
+    put_size(key.len(), KEY_SHOWN);
     if is_line(key) {
         put(b", the last a newline");
     }

@@ -31,12 +31,9 @@ pub fn wants_help() -> bool {
     buffer::same(&text[..n], b"--help")
 }
 
-pub fn is_standard_input(name: &[u8]) -> bool {
-    buffer::same(name, b"-")
-}
-
+// - is standard input.
 fn open_image(name: &[u8]) -> i32 {
-    if is_standard_input(name) {
+    if buffer::same(name, b"-") {
         return STDIN_FILENO;
     }
     os::open_read(name)

@@ -10,15 +10,16 @@ use numbers::BLOCK_BYTES;
 use numbers::DONE;
 use numbers::IMAGE_MOST;
 use page::complaints;
+use page::complaints::KEY_SHOWN;
 use print::Parsed;
 use survey::Tally;
 
 // ---- What the program ends with.
-pub const CLEAN: u8 = 0;
+const CLEAN: u8 = 0;
 
-pub const DAMAGED: u8 = 1;
+const DAMAGED: u8 = 1;
 
-pub const NOT_DONE: u8 = 2;
+const NOT_DONE: u8 = 2;
 
 // Clean: end of data was met, and nothing before it was bad, stray or cut.
 fn status(tally: Tally) -> u8
@@ -59,11 +60,10 @@ fn serve(key: &[u8], id: u32, recording: u64, image: &[u8]) -> u8
     NOT_DONE
 }
 
-// A file longer than an image may be is read one byte beyond that, so that it is refused and not cut.
+// A longer file is read one byte beyond what may be asked for, so that it is refused and not cut.
 const IMAGE_ROOM: usize = IMAGE_MOST * BLOCK_BYTES + 1;
 
-// A key that was written in hexadecimal is read whole, so that it can be told.
-const KEY_ROOM: usize = 65;
+const KEY_ROOM: usize = KEY_SHOWN + 1;
 
 fn with_image(id: u32, recording: u64, image: &[u8]) -> u8 {
     let mut key = [0u8; KEY_ROOM];
