@@ -15,7 +15,7 @@ use Rattle.laws.specs.Choose.{pick}
 use Rattle.laws.specs.Lists.{AllBytes}
 use Rattle.laws.proofs.ByteLaws.{bytes-zeros, bytes-take, bytes-drop, bytes-append}
 use Rattle.laws.proofs.ChooseLaws.{both-left, both-right}
-use Rattle.permutation.proofs.StateLaws.{Full}
+use Rattle.pi.proofs.StateLaws.{Full}
 use Rattle.sponge.specs.Blink.{put, dec}
 use Rattle.sponge.proofs.Bytes.{after-full, out-bytes}
 use Rattle.aead.specs.Sealing.{keyed, cipherOf, openedFrom, opened, fits}

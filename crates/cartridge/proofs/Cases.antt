@@ -4,9 +4,9 @@ use mathlib.Core.Path.{_≡_, refl}
 use mathlib.Core.List.{List, [], _∷_}
 use Rattle.laws.specs.Lists.{listed}
 use Rattle.laws.specs.Xor.{xor, xorAll}
-use Rattle.permutation.specs.Table.{S, table}
-use Rattle.permutation.specs.Field.{only, double, timesBits, times}
-use Rattle.permutation.specs.Permutation.{stateBy, source, shift, firstRow, turned, mixWith, mix}
+use Rattle.pi.specs.Table.{S, table}
+use Rattle.pi.specs.Field.{only, double, timesBits, times}
+use Rattle.pi.specs.Permutation.{stateBy, source, shift, firstRow, turned, mixWith, mix}
 use Rattle.sponge.specs.Blink.{into, padClose}
 use Rattle.aead.specs.Sealing.{keyOk}
 use Rattle.block.specs.Image.{capacityOf, sizeOk, imageOk, imageThenKey}

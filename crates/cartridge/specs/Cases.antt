@@ -3,9 +3,9 @@ use mathlib.Core.Bool.{false}
 use mathlib.Core.List.{List, [], _∷_}
 use Prim.Native.Nat.{ℕ, _-_}
 use lib.ListN.{getD, take, replicate}
-use Rattle.permutation.specs.Table.{S}
-use Rattle.permutation.specs.Field.{only, double}
-use Rattle.permutation.specs.Permutation.{stateBy, shift, mix}
+use Rattle.pi.specs.Table.{S}
+use Rattle.pi.specs.Field.{only, double}
+use Rattle.pi.specs.Permutation.{stateBy, shift, mix}
 use Rattle.sponge.specs.Blink.{padClose}
 use Rattle.writer.specs.declared.Reply.{Reply}
 use Rattle.writer.specs.declared.Reply.the-variants.{Plain, Warned, Refused}

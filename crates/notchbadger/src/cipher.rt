@@ -1,7 +1,7 @@
 // The permutation, the block operations and sealing: each call forwards.
 ghost use mathlib.Core.Path.{_≡_};
-ghost use Rattle.permutation.specs.Table.{S};
-ghost use Rattle.permutation.specs.Permutation.{round, round⁻, π, π⁻, Permuted, Rounded};
+ghost use Rattle.pi.specs.Table.{S};
+ghost use Rattle.pi.specs.Permutation.{round, round⁻, π, π⁻, Permuted, Rounded};
 ghost use Rattle.sponge.specs.Blink.{get, enc, dec, Put, Ran};
 ghost use Rattle.aead.specs.Sealing.{Sealed, Opened};
 

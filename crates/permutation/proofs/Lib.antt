@@ -1,15 +1,4 @@
--- What is true of the definitions of specs/, and the proof of each function below.
-pub mod Build
-pub mod Field
-pub mod Products
-pub mod Sums
+-- What the code's forms are worth, what a promise allows, and the proof of each function below.
 pub mod Mixing
-pub mod Tables
-pub mod StateLaws
-pub mod SubstituteLaws
-pub mod ShiftLaws
-pub mod MixLaws
-pub mod RoundLaws
-pub mod Trip
 pub mod Answers
 pub mod Unique

@@ -10,12 +10,12 @@ use Rattle.laws.specs.Loops.{front}
 use Rattle.laws.specs.Xor.{xor, xorAll}
 use Rattle.laws.proofs.XorLaws.{ac, xor-assoc, xor-zero, zero-xor, all-same, all-zero, all-sum}
 use Rattle.laws.proofs.SpliceLaws.{front-lay}
-use Rattle.permutation.specs.Field.{only, double, timesBits, times}
-use Rattle.permutation.specs.Permutation.{turned, firstRow, firstRow⁻, mixWith}
+use Rattle.pi.specs.Field.{only, double, timesBits, times}
+use Rattle.pi.specs.Permutation.{turned, firstRow, firstRow⁻, mixWith}
 use Rattle.permutation.specs.Rows.{rowAt, eight, column}
-use Rattle.permutation.proofs.Build.{state-all}
-use Rattle.permutation.proofs.Field.{double-xor}
-use Rattle.permutation.proofs.Products.{double-zero, double-bits}
+use Rattle.pi.proofs.Build.{state-all}
+use Rattle.pi.proofs.Field.{double-xor}
+use Rattle.pi.proofs.Products.{double-zero, double-bits}
 
 -- ---- a sum of products, from the lowest bit of the factors: what has it, and the double of what the other bits give
 double-all : (n : ℕ) (f : ℕ → ℕ) → double (xorAll n f) ≡ xorAll n (λ i. double (f i))

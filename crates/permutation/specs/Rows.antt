@@ -3,8 +3,8 @@ use mathlib.Core.List.{List, [], _∷_}
 use Prim.Native.Nat.{ℕ, _+_}
 use lib.ListN.{getD}
 use Rattle.laws.specs.Xor.{xorAll}
-use Rattle.permutation.specs.Field.{times}
-use Rattle.permutation.specs.Permutation.{turned}
+use Rattle.pi.specs.Field.{times}
+use Rattle.pi.specs.Permutation.{turned}
 
 -- a row of eight bytes by place: given one by one, or the one that begins at b in s; and column j of its product
 unfoldable pub eight : ℕ → ℕ → ℕ → ℕ → ℕ → ℕ → ℕ → ℕ → ℕ → ℕ

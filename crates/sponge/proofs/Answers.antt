@@ -11,7 +11,7 @@ use lib.ListN.{length, take}
 use lib.Seq.{take-all}
 use Rattle.laws.specs.Choose.{firstOf}
 use Rattle.laws.specs.Lists.{splice}
-use Rattle.permutation.specs.Permutation.{π, isState, Permuted}
+use Rattle.pi.specs.Permutation.{π, isState, Permuted}
 use Rattle.sponge.specs.Blink.{Op, put, after, out, number, Put, Ran}
 use Rattle.sponge.specs.Ways.{RanAll}
 use Rattle.sponge.proofs.Groups.{laid}

@@ -14,10 +14,10 @@ use Rattle.laws.specs.Lists.{AllBytes}
 use Rattle.laws.proofs.ByteLaws.{bytes-nil, bytes-take, bytes-drop, bytes-append, bytes-set, bytes-splice}
 use Rattle.laws.proofs.OrderLaws.{lt-or-ge}
 use Rattle.laws.proofs.XorLaws.{xor-byte}
-use Rattle.permutation.specs.Permutation.{added}
-use Rattle.permutation.proofs.Build.{state-at}
-use Rattle.permutation.proofs.RoundLaws.{π-full}
-use Rattle.permutation.proofs.StateLaws.{Full}
+use Rattle.pi.specs.Permutation.{added}
+use Rattle.pi.proofs.Build.{state-at}
+use Rattle.pi.proofs.RoundLaws.{π-full}
+use Rattle.pi.proofs.StateLaws.{Full}
 use Rattle.sponge.specs.Blink.{Op, put, get, enc, dec, kept, given, into, padBetween, padClose, group, runs, met, gave, after, out}
 use Rattle.sponge.proofs.Groups.{length-added}
 use Rattle.sponge.proofs.Lengths.{length-kept, length-group}

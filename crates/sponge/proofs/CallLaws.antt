@@ -5,7 +5,7 @@ use mathlib.Core.List.{List}
 use Prim.Native.Nat.{ℕ, _≤_}
 use borrow.Author.Tests.{eq-eqb, le-leb}
 use lib.ListN.{length}
-use Rattle.permutation.specs.Permutation.{isState}
+use Rattle.pi.specs.Permutation.{isState}
 use Rattle.sponge.specs.Blink.{Op, put, after, out, number, Put, Ran}
 
 pub number-zero : (v s o : List ℕ) → length v ≡ 64 → length o ≡ length s → length s ≤ 65536 → number v s o ≡ 0

@@ -13,8 +13,8 @@ use Rattle.laws.proofs.ListLaws.{listed-same, listed-take}
 use Rattle.laws.proofs.OrderLaws.{lt-or-ge}
 use Rattle.laws.proofs.SpliceLaws.{length-splice, splice-whole, take-splice, splice-before, splice-after}
 use Rattle.laws.proofs.XorLaws.{xor-swap, xor-zero, xor-back}
-use Rattle.permutation.specs.Permutation.{stateBy, added}
-use Rattle.permutation.proofs.Build.{length-stateBy, state-at, state-is}
+use Rattle.pi.specs.Permutation.{stateBy, added}
+use Rattle.pi.proofs.Build.{length-stateBy, state-at, state-is}
 
 -- what `buffer::copy` leaves of a source that is no shorter
 pub laid : (to from : List ℕ) → length to ≤ length from → splice to 0 (take (length to) from) ≡ take (length to) from

@@ -9,7 +9,7 @@ use lib.Dec.{T}
 use lib.ListN.{length, length-append, length-take, length-drop}
 use lib.Seq.{length-take-le}
 use Rattle.laws.proofs.SpliceLaws.{length-splice}
-use Rattle.permutation.specs.Permutation.{π, rounds, round}
+use Rattle.pi.specs.Permutation.{π, rounds, round}
 use Rattle.sponge.specs.Blink.{Op, put, get, enc, dec, kept, given, group, runs, met, gave, after, out}
 use Rattle.sponge.proofs.Groups.{length-added, length-masked}
 

@@ -12,7 +12,7 @@ use lib.ListN.{length, take, drop, length-drop, drop-of-length-le}
 use lib.Seq.{take-at, drop-at, drop-drop, take-all}
 use Rattle.laws.specs.Xor.{xor}
 use Rattle.laws.proofs.OrderLaws.{lt-or-ge}
-use Rattle.permutation.specs.Permutation.{π}
+use Rattle.pi.specs.Permutation.{π}
 use Rattle.sponge.specs.Blink.{Op, kept, given, into, padBetween, padClose, group, runs, met, gave, after, out}
 use Rattle.sponge.specs.Ways.{opOf}
 use Rattle.sponge.specs.declared.Way.{Way}

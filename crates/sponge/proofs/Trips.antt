@@ -9,7 +9,7 @@ use lib.Dec.{T, ltb}
 use lib.ListN.{length, take, drop, length-drop}
 use lib.Seq.{take-add, take-all, take-append-le, drop-append-le, drop-at}
 use Rattle.laws.proofs.OrderLaws.{lt-or-ge}
-use Rattle.permutation.specs.Permutation.{π}
+use Rattle.pi.specs.Permutation.{π}
 use Rattle.laws.specs.Choose.{pick}
 use Rattle.sponge.specs.Blink.{Op, enc, dec, kept, given, padBetween, padClose, group, runs, met, gave, after, out, Ran}
 use Rattle.sponge.proofs.Groups.{added-masked, masked-masked, splice-masked}

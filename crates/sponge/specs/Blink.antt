@@ -8,7 +8,7 @@ use lib.ListN.{length, getD, set, take, drop}
 use Rattle.laws.specs.Choose.{pick, firstOf}
 use Rattle.laws.specs.Lists.{splice}
 use Rattle.laws.specs.Xor.{xor}
-use Rattle.permutation.specs.Permutation.{π, added, isState}
+use Rattle.pi.specs.Permutation.{π, added, isState}
 
 pub data Op : Type 0 where
   put : Op

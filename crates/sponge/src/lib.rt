@@ -3,7 +3,7 @@ ghost use mathlib.Core.Path.{_≡_};
 ghost use Prim.Native.Nat.{_-_, _/_, _≤_, _<_};
 ghost use lib.ListN.{length, take};
 ghost use Rattle.laws.specs.Xor.{xor};
-ghost use Rattle.permutation.specs.Permutation.{π, added};
+ghost use Rattle.pi.specs.Permutation.{π, added};
 ghost use Rattle.sponge.specs.Blink.{put, get, enc, dec, into, after, number, Put, Ran};
 ghost use Rattle.sponge.specs.Ways.{opOf, Worked, RanAll};
 use numbers::ABOVE_LIMIT;

@@ -11,10 +11,10 @@ use Rattle.laws.specs.Loops.{front}
 use Rattle.laws.specs.Xor.{xor}
 use Rattle.laws.proofs.ListLaws.{front-none, front-seen, front-more}
 use Rattle.laws.proofs.XorLaws.{xor-zero}
-use Rattle.permutation.proofs.RoundLaws.{other-rows}
-use Rattle.permutation.specs.Table.{S}
-use Rattle.permutation.specs.Permutation.{added, constant}
-use Rattle.permutation.proofs.Build.{state-at, state-rest}
+use Rattle.pi.proofs.RoundLaws.{other-rows}
+use Rattle.pi.specs.Table.{S}
+use Rattle.pi.specs.Permutation.{added, constant}
+use Rattle.pi.proofs.Build.{state-at, state-rest}
 use Rattle.permutation.proofs.add_constants.Statement.{statement}
 use Rattle.permutation.proofs.add_constants.Tie as tie
 use Rattle.permutation.proofs.add_constants.Reads as reads

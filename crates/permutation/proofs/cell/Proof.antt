@@ -2,7 +2,7 @@
 -- Assumes nothing.
 use mathlib.Core.Path.{_∙_}
 use Rattle.laws.specs.Xor.{xor}
-use Rattle.permutation.specs.Permutation.{firstRow}
+use Rattle.pi.specs.Permutation.{firstRow}
 use Rattle.permutation.proofs.Mixing.{three, column-by-bits}
 use borrow.Author.Needs.{needs}
 use Rattle.permutation.proofs.cell.Statement.{statement}

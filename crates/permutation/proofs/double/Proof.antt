@@ -5,7 +5,7 @@ use native.Mathlib.Omega.{arith}
 use Prim.Native.Nat.{_/_, _%_}
 use lib.Bits.{xor-zero-r}
 use Rattle.laws.specs.Xor.{xor}
-use Rattle.permutation.specs.Field.{double, only}
+use Rattle.pi.specs.Field.{double, only}
 use Rattle.permutation.proofs.double.Statement.{statement}
 use Rattle.permutation.proofs.double.Tie as tie
 

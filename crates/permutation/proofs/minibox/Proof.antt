@@ -5,7 +5,7 @@ use native.Mathlib.Omega.{arith}
 use borrow.Author.Needs.{needs}
 use lib.Bits.{and-mask, mask-lt, xor-lt}
 use Rattle.laws.specs.Xor.{xor}
-use Rattle.permutation.proofs.Tables.{boxed, joins, pieces}
+use Rattle.pi.proofs.Tables.{boxed, joins, pieces}
 use Rattle.permutation.proofs.minibox.Statement.{statement}
 use Rattle.permutation.proofs.minibox.Tie as tie
 use Rattle.permutation.proofs.minibox.Reads as reads

@@ -7,7 +7,7 @@ use lib.ListN.{length}
 use Rattle.laws.specs.Loops.{front}
 use Rattle.laws.proofs.ListLaws.{front-none, length-listed}
 use Rattle.permutation.proofs.Mixing.{mixedByte, rows-more, rows-all}
-use Rattle.permutation.specs.Permutation.{mix⁻, firstRow⁻}
+use Rattle.pi.specs.Permutation.{mix⁻, firstRow⁻}
 use Rattle.permutation.proofs.mixed_back.Statement.{statement}
 use Rattle.permutation.proofs.mixed_back.Tie as tie
 use Rattle.permutation.proofs.mixed_back.Reads as reads

@@ -4,7 +4,7 @@ use mathlib.Core.Path.{sym, ap}
 use Prim.Native.Nat.{ℕ}
 use native.Mathlib.Nat.{add-zero}
 use lib.ListN.{getD}
-use Rattle.permutation.specs.Permutation.{firstRow⁻}
+use Rattle.pi.specs.Permutation.{firstRow⁻}
 use Rattle.permutation.specs.Rows.{rowAt}
 use Rattle.permutation.proofs.Mixing.{row-is}
 use borrow.Author.Needs.{needs}

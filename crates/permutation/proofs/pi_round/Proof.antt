@@ -1,6 +1,6 @@
 -- `permutation::pi_round` meets its contract: its two steps, one after the other.
 -- Assumes nothing.
-use Rattle.permutation.specs.Permutation.{round}
+use Rattle.pi.specs.Permutation.{round}
 use borrow.Author.Needs.{needs}
 use Rattle.permutation.proofs.pi_round.Statement.{statement}
 use Rattle.permutation.proofs.pi_round.Tie as tie

@@ -1,8 +1,8 @@
 -- `permutation::round` meets its contract: the two refusals, then its two steps.
 -- Assumes nothing.
 use mathlib.Core.Path.{refl}
-use Rattle.permutation.specs.Table.{table}
-use Rattle.permutation.specs.Permutation.{round}
+use Rattle.pi.specs.Table.{table}
+use Rattle.pi.specs.Permutation.{round}
 use Rattle.permutation.proofs.Answers.{no-state, no-key, keyed}
 use borrow.Author.Needs.{needs}
 use Rattle.permutation.proofs.round.Statement.{statement}

@@ -1,8 +1,8 @@
 -- `permutation::round_back` meets its contract: the two refusals, then its two steps.
 -- Assumes nothing.
 use mathlib.Core.Path.{refl, _∙_}
-use Rattle.permutation.specs.Table.{backTable}
-use Rattle.permutation.specs.Permutation.{round⁻}
+use Rattle.pi.specs.Table.{backTable}
+use Rattle.pi.specs.Permutation.{round⁻}
 use Rattle.permutation.proofs.Answers.{no-state, no-key, keyed}
 use borrow.Author.Needs.{needs}
 use Rattle.permutation.proofs.round_back.Statement.{statement}

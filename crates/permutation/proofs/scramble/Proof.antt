@@ -1,6 +1,6 @@
 -- `permutation::scramble` meets its contract: its steps, one after the other.
 -- Assumes nothing.
-use Rattle.permutation.specs.Permutation.{scramble}
+use Rattle.pi.specs.Permutation.{scramble}
 use borrow.Author.Needs.{needs}
 use Rattle.permutation.proofs.scramble.Statement.{statement}
 use Rattle.permutation.proofs.scramble.Tie as tie

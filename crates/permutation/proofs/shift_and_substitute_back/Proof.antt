@@ -7,10 +7,10 @@ use Prim.Native.Nat.{ℕ, _-_, _≤_}
 use lib.ListN.{length, getD, length-set}
 use Rattle.laws.specs.Loops.{front}
 use Rattle.laws.proofs.ListLaws.{front-none, front-more}
-use Rattle.permutation.specs.Table.{S⁻}
-use Rattle.permutation.specs.Permutation.{target}
-use Rattle.permutation.proofs.Build.{state-all}
-use Rattle.permutation.proofs.ShiftLaws.{moved⁻}
+use Rattle.pi.specs.Table.{S⁻}
+use Rattle.pi.specs.Permutation.{target}
+use Rattle.pi.proofs.Build.{state-all}
+use Rattle.pi.proofs.ShiftLaws.{moved⁻}
 use borrow.Author.Needs.{needs}
 use Rattle.permutation.proofs.shift_and_substitute_back.Statement.{statement}
 use Rattle.permutation.proofs.shift_and_substitute_back.Tie as tie

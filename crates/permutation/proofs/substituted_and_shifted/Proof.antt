@@ -7,10 +7,10 @@ use Prim.Native.Nat.{ℕ, _-_, _≤_}
 use lib.ListN.{length, getD, length-set}
 use Rattle.laws.specs.Loops.{front}
 use Rattle.laws.proofs.ListLaws.{front-none, front-more}
-use Rattle.permutation.specs.Table.{S}
-use Rattle.permutation.specs.Permutation.{source}
-use Rattle.permutation.proofs.Build.{state-all}
-use Rattle.permutation.proofs.ShiftLaws.{moved}
+use Rattle.pi.specs.Table.{S}
+use Rattle.pi.specs.Permutation.{source}
+use Rattle.pi.proofs.Build.{state-all}
+use Rattle.pi.proofs.ShiftLaws.{moved}
 use Rattle.permutation.proofs.substituted_and_shifted.Statement.{statement}
 use Rattle.permutation.proofs.substituted_and_shifted.Tie as tie
 use Rattle.permutation.proofs.substituted_and_shifted.Reads as reads

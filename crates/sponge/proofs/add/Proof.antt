@@ -2,7 +2,7 @@
 -- Assumes nothing.
 use mathlib.Core.Path.{_∙_}
 use native.Mathlib.Omega.{arith}
-use Rattle.permutation.proofs.Build.{added-is}
+use Rattle.pi.proofs.Build.{added-is}
 use Rattle.sponge.proofs.add.Statement.{statement}
 use Rattle.sponge.proofs.add.Tie as tie
 

@@ -1,7 +1,7 @@
 -- `sponge::number` meets its contract: its tests are the definition's.
 -- Assumes nothing.
 use borrow.Author.Tests.{eq-eqb, ne-eqb, le-leb, lt-leb}
-use Rattle.permutation.specs.Permutation.{isState}
+use Rattle.pi.specs.Permutation.{isState}
 use Rattle.sponge.specs.Blink.{number}
 use Rattle.sponge.proofs.number.Statement.{statement}
 use Rattle.sponge.proofs.number.Tie as tie

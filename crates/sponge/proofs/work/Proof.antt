@@ -7,7 +7,7 @@ use native.Mathlib.Omega.{arith}
 use borrow.Author.Needs.{needs}
 use lib.ListN.{length, take}
 use Rattle.laws.specs.Lists.{splice}
-use Rattle.permutation.specs.Permutation.{added}
+use Rattle.pi.specs.Permutation.{added}
 use Rattle.sponge.specs.Blink.{kept, given}
 use Rattle.sponge.specs.Ways.{opOf, Worked}
 use Rattle.sponge.specs.declared.Way.{Way}

@@ -8,7 +8,7 @@ use lib.Bits.{bitXor, xor-shr, xor-mod, xor-block, xor-self, xor-zero-r}
 use Rattle.laws.specs.Xor.{xor}
 use Rattle.laws.proofs.OrderLaws.{below2}
 use Rattle.laws.proofs.XorLaws.{ac, low}
-use Rattle.permutation.specs.Field.{only, double}
+use Rattle.pi.specs.Field.{only, double}
 
 -- ---- doubling adds up
 twice : (x y : ℕ) → bitXor x y * 2 ≡ bitXor (x * 2) (y * 2)

@@ -9,9 +9,9 @@ use lib.Bits.{bitXor, xor-shr, xor-mod}
 use Rattle.laws.specs.Xor.{xor}
 use Rattle.laws.proofs.TableLaws.{at}
 use Rattle.laws.proofs.XorLaws.{xor-byte, low, ac, xor-zero, zero-xor}
-use Rattle.permutation.specs.Table.{table}
-use Rattle.permutation.specs.Field.{only, double, timesBits, times}
-use Rattle.permutation.proofs.Field.{only-xor, double-xor}
+use Rattle.pi.specs.Table.{table}
+use Rattle.pi.specs.Field.{only, double, timesBits, times}
+use Rattle.pi.proofs.Field.{only-xor, double-xor}
 
 -- ---- in the second factor
 only-sum : (b x y : ℕ) → only b (xor x y) ≡ xor (only b x) (only b y)

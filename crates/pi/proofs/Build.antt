@@ -7,7 +7,7 @@ use lib.ListN.{length, getD}
 use Rattle.laws.specs.Loops.{front}
 use Rattle.laws.specs.Xor.{xorInto}
 use Rattle.laws.proofs.ListLaws.{length-listed, listed-seen, listed-is, listed-same, front-all, front-rest}
-use Rattle.permutation.specs.Permutation.{stateBy, added}
+use Rattle.pi.specs.Permutation.{stateBy, added}
 
 pub length-stateBy : (f : ℕ → ℕ) → length (stateBy f) ≡ 64
 unfolding stateBy

@@ -10,10 +10,10 @@ use lib.ListN.{length}
 use Rattle.laws.specs.Choose.{pick}
 use Rattle.laws.specs.Lists.{AllBytes}
 use Rattle.laws.proofs.ChooseLaws.{both-left, both-right}
-use Rattle.permutation.specs.Permutation.{π, π⁻, round, round⁻, rounds, rounds⁻, added, isState, Permuted, Rounded}
-use Rattle.permutation.proofs.Build.{length-stateBy}
-use Rattle.permutation.proofs.StateLaws.{Full}
-use Rattle.permutation.proofs.RoundLaws.{round⁻-full, round⁻-round, round-round⁻, π⁻-π, π-π⁻}
+use Rattle.pi.specs.Permutation.{π, π⁻, round, round⁻, rounds, rounds⁻, added, isState, Permuted, Rounded}
+use Rattle.pi.proofs.Build.{length-stateBy}
+use Rattle.pi.proofs.StateLaws.{Full}
+use Rattle.pi.proofs.RoundLaws.{round⁻-full, round⁻-round, round-round⁻, π⁻-π, π-π⁻}
 
 -- one call by f, then one by g, which undoes f where both are taken
 undone : (ok : List ℕ → Bool) (f g : List ℕ → List ℕ) {s t u : List ℕ}

@@ -10,8 +10,8 @@ use lib.ListN.{length, getD, List·getD-eq-default}
 use Rattle.laws.specs.Lists.{listed, AllBytes}
 use Rattle.laws.proofs.OrderLaws.{lt-or-ge}
 use Rattle.laws.proofs.TableLaws.{every, at}
-use Rattle.permutation.specs.Permutation.{stateBy}
-use Rattle.permutation.proofs.Build.{length-stateBy, state-at}
+use Rattle.pi.specs.Permutation.{stateBy}
+use Rattle.pi.proofs.Build.{length-stateBy, state-at}
 
 -- a list of 64 bytes
 pub record Full (s : List ℕ) : Type 0 where

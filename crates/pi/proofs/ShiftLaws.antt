@@ -9,10 +9,10 @@ use lib.Dec.{eqb, eqb→eq}
 use lib.ListN.{getD}
 use Rattle.laws.specs.Lists.{listed}
 use Rattle.laws.proofs.TableLaws.{at}
-use Rattle.permutation.specs.Table.{S, S⁻}
-use Rattle.permutation.specs.Permutation.{stateBy, substitute, substitute⁻, source, target, shift, shift⁻}
-use Rattle.permutation.proofs.Build.{state-at, state-is, state-same}
-use Rattle.permutation.proofs.StateLaws.{Full, places, state-full}
+use Rattle.pi.specs.Table.{S, S⁻}
+use Rattle.pi.specs.Permutation.{stateBy, substitute, substitute⁻, source, target, shift, shift⁻}
+use Rattle.pi.proofs.Build.{state-at, state-is, state-same}
+use Rattle.pi.proofs.StateLaws.{Full, places, state-full}
 
 pub shift-full : (s : List ℕ) → Full s → Full (shift s)
 unfolding shift

@@ -14,12 +14,12 @@ use Rattle.laws.proofs.ListLaws.{length-listed}
 use Rattle.laws.proofs.OrderLaws.{below8}
 use Rattle.laws.proofs.TableLaws.{every, at}
 use Rattle.laws.proofs.XorLaws.{xor-zero, zero-xor, all-same, all-swap, all-byte}
-use Rattle.permutation.specs.Field.{only, double, timesBits, times}
-use Rattle.permutation.specs.Permutation.{stateBy, firstRow, firstRow⁻, turned, mixWith, mix, mix⁻}
-use Rattle.permutation.proofs.Build.{state-at, state-is, state-same}
-use Rattle.permutation.proofs.Products.{times-assoc, times-byte, zero-times, one-times}
-use Rattle.permutation.proofs.Sums.{times-all, all-times}
-use Rattle.permutation.proofs.StateLaws.{Full, places, state-full, list-bytes}
+use Rattle.pi.specs.Field.{only, double, timesBits, times}
+use Rattle.pi.specs.Permutation.{stateBy, firstRow, firstRow⁻, turned, mixWith, mix, mix⁻}
+use Rattle.pi.proofs.Build.{state-at, state-is, state-same}
+use Rattle.pi.proofs.Products.{times-assoc, times-byte, zero-times, one-times}
+use Rattle.pi.proofs.Sums.{times-all, all-times}
+use Rattle.pi.proofs.StateLaws.{Full, places, state-full, list-bytes}
 
 -- ---- mixing by c, then by d, is mixing by e where e's matrix is the product of theirs: 64 sums of eight products
 unfoldable pub composed : List ℕ → List ℕ → List ℕ → ℕ → ℕ → Bool

@@ -9,8 +9,8 @@ use lib.ListN.{length, getD}
 use Rattle.laws.specs.Choose.{pick}
 use Rattle.laws.specs.Lists.{listed}
 use Rattle.laws.specs.Xor.{xor, xorAll}
-use Rattle.permutation.specs.Table.{S, S⁻}
-use Rattle.permutation.specs.Field.{times}
+use Rattle.pi.specs.Table.{S, S⁻}
+use Rattle.pi.specs.Field.{times}
 
 -- the state whose byte at k is f k
 unfoldable pub stateBy : (ℕ → ℕ) → List ℕ

@@ -13,13 +13,13 @@ use Rattle.laws.specs.Choose.{pick}
 use Rattle.laws.specs.Xor.{xor}
 use Rattle.laws.proofs.OrderLaws.{lt-or-ge}
 use Rattle.laws.proofs.XorLaws.{xor-undone, xor-byte}
-use Rattle.permutation.specs.Table.{S}
-use Rattle.permutation.specs.Permutation.{substitute, substitute⁻, shift, shift⁻, mix, mix⁻, scramble, scramble⁻, added, constant, round, round⁻, rounds, rounds⁻, π, π⁻}
-use Rattle.permutation.proofs.Build.{length-stateBy, state-at, state-is}
-use Rattle.permutation.proofs.StateLaws.{Full, state-full}
-use Rattle.permutation.proofs.SubstituteLaws.{any-S, substitute-full, substitute⁻-full, substitute⁻-substitute, substitute-substitute⁻}
-use Rattle.permutation.proofs.ShiftLaws.{shift-full, shift⁻-full, shift⁻-shift, shift-shift⁻}
-use Rattle.permutation.proofs.MixLaws.{mix-full, mix⁻-full, mix⁻-mix, mix-mix⁻}
+use Rattle.pi.specs.Table.{S}
+use Rattle.pi.specs.Permutation.{substitute, substitute⁻, shift, shift⁻, mix, mix⁻, scramble, scramble⁻, added, constant, round, round⁻, rounds, rounds⁻, π, π⁻}
+use Rattle.pi.proofs.Build.{length-stateBy, state-at, state-is}
+use Rattle.pi.proofs.StateLaws.{Full, state-full}
+use Rattle.pi.proofs.SubstituteLaws.{any-S, substitute-full, substitute⁻-full, substitute⁻-substitute, substitute-substitute⁻}
+use Rattle.pi.proofs.ShiftLaws.{shift-full, shift⁻-full, shift⁻-shift, shift-shift⁻}
+use Rattle.pi.proofs.MixLaws.{mix-full, mix⁻-full, mix⁻-mix, mix-mix⁻}
 
 -- ---- a key, added twice, is gone
 pub added-full : (key s : List ℕ) → Full key → Full s → Full (added key s)

@@ -3,8 +3,8 @@
 use mathlib.Core.Path.{_≡_, ap, _∙_}
 use Prim.Native.Nat.{ℕ, zero, suc}
 use Rattle.laws.specs.Xor.{xor, xorAll}
-use Rattle.permutation.specs.Field.{times}
-use Rattle.permutation.proofs.Products.{times-sum, times-in, times-zero, zero-times}
+use Rattle.pi.specs.Field.{times}
+use Rattle.pi.proofs.Products.{times-sum, times-in, times-zero, zero-times}
 
 pub times-all : (c n : ℕ) (f : ℕ → ℕ) → times c (xorAll n f) ≡ xorAll n (λ i. times c (f i))
 unfolding xorAll

@@ -10,7 +10,7 @@ use lib.ListN.{getD}
 use lib.Bits.{bitOr, or-shifted}
 use Rattle.laws.specs.Xor.{xor}
 use Rattle.laws.proofs.TableLaws.{at}
-use Rattle.permutation.specs.Table.{table, backTable, S, S⁻, E, E⁻, R, joined, halves, miniboxed}
+use Rattle.pi.specs.Table.{table, backTable, S, S⁻, E, E⁻, R, joined, halves, miniboxed}
 
 -- ---- the miniboxes' entries are half bytes
 pub half : ℕ → ℕ → Bool

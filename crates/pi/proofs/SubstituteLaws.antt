@@ -4,11 +4,11 @@ use mathlib.Core.Path.{_≡_, ap, _∙_}
 use mathlib.Core.List.{List}
 use Prim.Native.Nat.{ℕ, _<_}
 use lib.ListN.{getD}
-use Rattle.permutation.specs.Table.{S, S⁻, table, backTable}
-use Rattle.permutation.specs.Permutation.{substitute, substitute⁻}
-use Rattle.permutation.proofs.Build.{state-at, state-is}
-use Rattle.permutation.proofs.Tables.{S⁻-S, S-S⁻}
-use Rattle.permutation.proofs.StateLaws.{Full, state-full, list-bytes}
+use Rattle.pi.specs.Table.{S, S⁻, table, backTable}
+use Rattle.pi.specs.Permutation.{substitute, substitute⁻}
+use Rattle.pi.proofs.Build.{state-at, state-is}
+use Rattle.pi.proofs.Tables.{S⁻-S, S-S⁻}
+use Rattle.pi.proofs.StateLaws.{Full, state-full, list-bytes}
 
 pub any-S : (x : ℕ) → S x < 256
 unfolding S table
