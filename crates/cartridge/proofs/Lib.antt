@@ -8,3 +8,4 @@ pub mod Demand3
 pub mod Cases
 pub mod Tail
 pub mod ByCalls
+pub mod Counted

@@ -96,11 +96,15 @@ fn hex_digits(text: &[u8]) -> usize {
     i
 }
 
+// A key with a line end behind it, of one byte or two.
 fn is_line(text: &[u8]) -> bool {
-    if text.len() != KEY_BYTES + 1 {
+    if text.len() <= KEY_BYTES {
         return false;
     }
-    text[KEY_BYTES] == 10
+    if KEY_BYTES + 2 < text.len() {
+        return false;
+    }
+    text[text.len() - 1] == 10
 }
 
 // Of a key file this much is read, and told: a key in hexadecimal too.

@@ -49,6 +49,15 @@ abbrev pub sizes : List Item → ℕ
 sizes [] = 0
 sizes (i ∷ is) = size i + sizes is
 
+-- ---- the file marks among them
+abbrev pub fileMarks : Item → ℕ
+fileMarks (rec b) = 0
+fileMarks fmark = 1
+
+abbrev pub fileMarksIn : List Item → ℕ
+fileMarksIn [] = 0
+fileMarksIn (i ∷ is) = fileMarks i + fileMarksIn is
+
 -- ---- a record's first block, or a following one
 abbrev pub piece : Bool → Bool → List ℕ → Content
 piece true last b = head (first last b)
