@@ -8,7 +8,7 @@ use lib.Dec.{eqb}
 use Rattle.laws.specs.Choose.{pick}
 use Rattle.laws.proofs.ListLaws.{listed-seen}
 use Rattle.block.specs.Image.{capacityOf}
-use Rattle.writer.specs.Items.{Item, rec, fmark, size, fileMarks, fileMarksIn}
+use Rattle.writer.specs.Items.{Item, size, fileMarks, fileMarksIn}
 use Rattle.reader.specs.Walk.{Told, Record, Mark, End, Bad, Stray, Cut, Visit, walk}
 use Rattle.survey.specs.Marks.{howMany}
 use Rattle.survey.specs.declared.Tally.{Tally}

@@ -1,4 +1,3 @@
 -- What the code's forms are worth, what a promise allows, and the proof of each function below.
 pub mod Mixing
-pub mod Answers
 pub mod Unique

@@ -10,3 +10,4 @@ pub mod ShiftLaws
 pub mod MixLaws
 pub mod RoundLaws
 pub mod Trip
+pub mod Answers

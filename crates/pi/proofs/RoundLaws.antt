@@ -87,7 +87,7 @@ pub round⁻-full : (key s : List ℕ) → Full (round⁻ key s)
 unfolding round⁻
 round⁻-full key s = scramble⁻-full (added key s)
 
-rounds-full : (n : ℕ) (s : List ℕ) → Full s → Full (rounds n s)
+pub rounds-full : (n : ℕ) (s : List ℕ) → Full s → Full (rounds n s)
 unfolding rounds
 rounds-full zero s w = w
 rounds-full (suc n) s w = round-full (constant n) (rounds n s) (constant-full n)

@@ -3,7 +3,7 @@
 use mathlib.Core.Path.{refl}
 use Rattle.pi.specs.Table.{table}
 use Rattle.pi.specs.Permutation.{round}
-use Rattle.permutation.proofs.Answers.{no-state, no-key, keyed}
+use Rattle.pi.proofs.Answers.{no-state, no-key, keyed}
 use borrow.Author.Needs.{needs}
 use Rattle.permutation.proofs.round.Statement.{statement}
 use Rattle.permutation.proofs.round.Tie as tie

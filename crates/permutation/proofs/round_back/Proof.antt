@@ -3,7 +3,7 @@
 use mathlib.Core.Path.{refl, _∙_}
 use Rattle.pi.specs.Table.{backTable}
 use Rattle.pi.specs.Permutation.{round⁻}
-use Rattle.permutation.proofs.Answers.{no-state, no-key, keyed}
+use Rattle.pi.proofs.Answers.{no-state, no-key, keyed}
 use borrow.Author.Needs.{needs}
 use Rattle.permutation.proofs.round_back.Statement.{statement}
 use Rattle.permutation.proofs.round_back.Tie as tie

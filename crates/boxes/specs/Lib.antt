@@ -1,0 +1,2 @@
+-- What the substitution's circuits are.
+pub mod Boxes

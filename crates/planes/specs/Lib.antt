@@ -1,0 +1,3 @@
+-- What a state's planes are.
+pub mod Planes
+pub mod Packing

@@ -1,0 +1,5 @@
+-- What is true of the rounds on planes, and the proof of each function below.
+pub mod CopyLaws
+pub mod AlikeLaws
+pub mod ConstantLaws
+pub mod PlaneRounds

@@ -1,0 +1,13 @@
+-- `rounds::unscrambled` meets its contract.
+-- Assumes nothing.
+use Rattle.rounds.proofs.PlaneRounds.{unmixed}
+use Rattle.rounds.proofs.unscrambled.Statement.{statement}
+use Rattle.rounds.proofs.unscrambled.Tie as tie
+
+returns : tie.Need-returns
+returns c =
+    let v = c .before .before in
+    unmixed _ _ _ _ _ _ (v .before .words .ensures) (v .sum .ensures) (c .before .evened .ensures) (c .mixed .ensures)
+
+pub unscrambled-spec : {M : Type 1} → statement M
+unscrambled-spec = tie.close (tie.spec (λ c κs. tt) (λ c κs. tt) (λ c κs. tt) (λ c κs. tt) returns)

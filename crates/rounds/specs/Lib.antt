@@ -1,0 +1,2 @@
+-- What private contracts cite.
+pub mod Rounds
