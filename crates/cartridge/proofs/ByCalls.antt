@@ -46,6 +46,27 @@ chained {key} {s} {s″} {image} {image″} (next {image′ = image′} {x = x} 
     let j = subst (λ (b : List ℕ). AsChained key (d .state) b xs ws s″ image″) (c .leaves) i in
     record { state = j .state; bytes = j .bytes; taken = ap₂ (λ (v : Wrote) (is : List Item). took (v .reply) x ++ is) (c .says) (j .taken) }
 
+-- a start that was taken and the calls behind it are a run: `w₀` and `z` are what the start answered and left, `ws` what the calls answered,
+-- `s` and `was` the state and image at their end
+pub record AsRun (r : Run) (ws : List Wrote) (s : WriterState) (was : List ℕ) : Type 0 where
+  pub proper : Proper r
+  pub state : s ≡ left r .state
+  pub bytes : was ≡ left r .image
+  pub taken : takenBy (r .calls) ws ≡ items r
+
+pub as-run : (r : Run) {w₀ : Wrote} {z : List ℕ} {ws : List Wrote} {s : WriterState} {was : List ℕ} → Did (begun (r .setup)) w₀ z
+    → w₀ .reply ≡ Plain → AllCallBytes (r .calls) → Writes (r .setup .key) (w₀ .state) z (r .calls) ws s was → AsRun r ws s was
+as-run r {w₀} {z} {ws} {s} {was} c e b ch =
+    let a = r .setup in
+    let i = subst (λ (v : Wrote). AsChained (a .key) (v .state) z (r .calls) ws s was) (c .says) (chained ch) in
+    let j = subst (λ (y : List ℕ). AsChained (a .key) (begun a .state) y (r .calls) ws s was) (c .leaves) i in
+    record {
+      proper = record { starts = sym (ap (λ (v : Wrote). v .reply) (c .says)) ∙ e; bytes = b };
+      state = j .state;
+      bytes = j .bytes;
+      taken = j .taken;
+    }
+
 -- ---- reading: the buffer
 front-is : (b x : List ℕ) → splice b 0 x ≡ x ++ drop (0 + length x) b
 unfolding splice
@@ -133,19 +154,17 @@ same-size : (now was : List ℕ) → length now ≡ length was → imageOk was �
 unfolding imageOk
 same-size now was e h = rw e h
 
--- ---- demand 3, said of the calls. `w₀` and `z` are what the start answered and left, `ws` what the writer's calls answered, `s` and `was` the
--- state and image at their end; `xs` are the calls of `read` over `now`
+-- ---- demand 3, said of the calls; `xs` are the calls of `read` over `now`
 pub demand-3-by-calls : (r : Run) {w₀ : Wrote} {z : List ℕ} {ws : List Wrote} {s : WriterState} {was : List ℕ}
     → Did (begun (r .setup)) w₀ z → w₀ .reply ≡ Plain → AllCallBytes (r .calls) → Writes (r .setup .key) (w₀ .state) z (r .calls) ws s was
     → s .closed ≡ true → length (r .setup .key) ≡ 24 → (now : List ℕ) → Damaged r now
     → (buffer : List ℕ) → 31232 ≤ length buffer → (xs : List Step) → Reads (r .setup .key) (r .setup .id) (r .setup .recording) now 0 buffer xs
     → (allInHand xs ≡ intact (spoiled was now) 0 (takenBy (r .calls) ws)) × (length xs ≤ capacityOf now)
 unfolding walk
-demand-3-by-calls r {w₀} {z} {ws} {s} {was} c e b ch k hk now d buffer hb xs rs =
+demand-3-by-calls r c e b ch k hk now d buffer hb xs rs =
     let a = r .setup in
-    let i = subst (λ (v : Wrote). AsChained (a .key) (v .state) z (r .calls) ws s was) (c .says) (chained ch) in
-    let j = subst (λ (y : List ℕ). AsChained (a .key) (begun a .state) y (r .calls) ws s was) (c .leaves) i in
-    let p : Proper r = record { starts = sym (ap (λ (v : Wrote). v .reply) (c .says)) ∙ e; bytes = b } in
+    let j = as-run r c e b ch in
+    let p = j .proper in
     let shut = sym (ap (λ (v : WriterState). v .closed) (j .state)) ∙ k in
     let x = demand-3 r p shut now d in
     let ok = same-size now (left r .image) (d .long) (image-ok a (left r .state) (left r .image) (items r) (made r p) hk) in
