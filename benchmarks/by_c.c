@@ -12,7 +12,7 @@ static const struct identity identity = {KEY, SIDE_ID, SIDE_RECORDING};
 
 static struct writer open_at(size_t position)
 {
-    struct writer writer = {SIDE_ID, SIDE_RECORDING, SIDE_CAPACITY, SIDE_ZONE, position, false};
+    struct writer writer = {SIDE_ID, SIDE_RECORDING, SIDE_CAPACITY, SIDE_ZONE, position, false, 0};
 
     return writer;
 }

@@ -7,7 +7,7 @@
 
 static nb_state open_at(size_t position)
 {
-    nb_state state = {SIDE_ID, SIDE_RECORDING, SIDE_CAPACITY, SIDE_ZONE, position, 0};
+    nb_state state = {SIDE_ID, SIDE_RECORDING, SIDE_CAPACITY, SIDE_ZONE, position, 0, 0};
 
     return state;
 }

@@ -51,7 +51,7 @@ extern "C" {
 
 /* The version of this header, and of the archive that is linked: they should be
  * the same. No number. Writes nothing. */
-#define NB_VERSION 1
+#define NB_VERSION 2
 uint32_t nb_version(void);
 
 /* The numbers. The c of an image is how many blocks it has. */
@@ -195,8 +195,15 @@ uint8_t nb_open(const uint8_t *key, size_t key_len,
  * 2 is the key's length; 5 keeps the last block free, which is held for the end
  * of data. 8 is a state that is not lawful for the image: its capacity is not
  * c, its zone is outside 1 to c - 1, its position is above c - 1 while open, or
- * is 0 or above c when closed, or closed is neither 0 nor 1. The id, the
- * recording number and the bytes of the image are not looked at. */
+ * is 0 or above c when closed, its marks are above its position, or closed is
+ * neither 0 nor 1. The id, the recording number and the bytes of the image are
+ * not looked at.
+ *
+ * marks is the number of the file that the writer is in, for a panel that can't
+ * wait for a walk: 0 after a start, one more with each accepted mark, the same
+ * after anything else, taken or refused. From an accepted start on, while each
+ * call gets the state and image that the last one left and this one key, it is
+ * what nb_report counts as marks in the image as it stands. */
 
 /* nb_wrote's reply. Only a record can be warned. */
 #define NB_PLAIN 0
@@ -210,6 +217,7 @@ typedef struct {
     size_t zone;     /* of the early warning */
     size_t position; /* where the next item begins */
     uint8_t closed;  /* 0 or 1 */
+    size_t marks;    /* file marks written so far */
 } nb_state;
 
 typedef struct {
@@ -219,8 +227,9 @@ typedef struct {
 } nb_wrote;
 
 /* Begins a recording: fills the image with zeros and gives an open state at
- * position 0. 1, 3; refused, the state is all zeros but for closed, which is 1,
- * and no image takes it (8). Writes the image, and only when not refused. */
+ * position 0, with no marks. 1, 3; refused, the state is all zeros but for
+ * closed, which is 1, and no image takes it (8). Writes the image, and only
+ * when not refused. */
 NB_MUST_USE
 nb_wrote nb_start(uint32_t id, uint64_t recording, size_t zone,
                   uint8_t *image, size_t image_len);
@@ -235,9 +244,9 @@ nb_wrote nb_record(nb_state state, const uint8_t *key, size_t key_len,
                    const uint8_t *bytes, size_t bytes_len,
                    uint8_t *image, size_t image_len);
 
-/* Writes a file mark, one block, at the position. 1, 2, 8, 6, 5; refused, the
- * state comes back as it was given. Writes its own block of the image, and
- * only when not refused. */
+/* Writes a file mark, one block, at the position, and adds one to marks. 1, 2,
+ * 8, 6, 5; refused, the state comes back as it was given. Writes its own block
+ * of the image, and only when not refused. */
 NB_MUST_USE
 nb_wrote nb_mark(nb_state state, const uint8_t *key, size_t key_len,
                  uint8_t *image, size_t image_len);

@@ -1,8 +1,10 @@
 /* compare-chains [SEED [CHAINS]]: holds the peer's writer and that of the
  * kit's static library against each other on random chains of calls. After
  * every call: each field of the answer, the whole image, the other lent memory
- * and the guard bytes. A chain goes on from the library's state. Exit 1 at the
- * first difference, 2 on wrong arguments. */
+ * and the guard bytes. A chain goes on from the library's state. In some, where
+ * nobody else wrote, the state's file marks are also held against those that
+ * the library's report and the peer's count in the image. Exit 1 at the first
+ * difference, 2 on wrong arguments. */
 #include <inttypes.h>
 #include <stdbool.h>
 #include <stdio.h>
@@ -10,6 +12,7 @@
 
 #include "notchbadger.h"
 #include "random.h"
+#include "reader.h"
 #include "writer.h"
 
 #define DEFAULT_SEED 20150828u
@@ -26,8 +29,13 @@ static struct strip image, key, bytes;
 static struct {
     size_t capacity;
     bool scribbled; /* foreign bytes come into the image between its calls */
+    bool counted;   /* its file marks are held against a report */
+    bool own;       /* all that its calls wrote since the last start is its own */
     nb_state state; /* the library's last */
 } chain;
+
+/* How often a report was asked for the file marks. */
+static uint64_t reports;
 
 /* One call. What is lent may be shorter or longer than the chain's own. */
 static struct {
@@ -73,7 +81,7 @@ static uint8_t draw_closed(void)
  * chain's, and a call from them is carried out. */
 static void stray(nb_state *state)
 {
-    size_t way = below(9);
+    size_t way = below(11);
 
     now.strayed = true;
     if (way == 0 || way == 1)
@@ -90,6 +98,10 @@ static void stray(nb_state *state)
         state->id = (uint32_t)draw();
     if (way == 0 || way == 8)
         state->recording = once_in(2) ? UINT64_MAX : draw();
+    if (way == 0 || way == 9)
+        state->marks = draw_edge();
+    if (way == 10) /* as many as blocks, or one more or less */
+        state->marks = state->position - 1 + below(3);
 }
 
 static size_t draw_image_length(size_t odds)
@@ -182,7 +194,8 @@ static nb_wrote as_wrote(struct reply reply)
 {
     nb_wrote wrote = {
         {reply.writer.cartridge, reply.writer.recording, (size_t)reply.writer.capacity,
-         (size_t)reply.writer.zone, (size_t)reply.writer.position, reply.writer.closed},
+         (size_t)reply.writer.zone, (size_t)reply.writer.position, reply.writer.closed,
+         (size_t)reply.writer.marks},
         (uint8_t)reply.result, reply.number,
     };
 
@@ -213,7 +226,7 @@ static nb_wrote run_peer(void)
     bool odd = now.verb != START && now.from.closed > 1;
     struct writer writer = {
         now.from.id, now.from.recording, odd ? 0 : now.from.capacity,
-        now.from.zone, now.from.position, now.from.closed == 1,
+        now.from.zone, now.from.position, now.from.closed == 1, now.from.marks,
     };
     nb_wrote wrote = as_wrote(call_peer(writer));
 
@@ -242,15 +255,17 @@ static nb_wrote run_kit(void)
 static bool same_state(const nb_state *a, const nb_state *b)
 {
     return a->id == b->id && a->recording == b->recording && a->capacity == b->capacity
-           && a->zone == b->zone && a->position == b->position && a->closed == b->closed;
+           && a->zone == b->zone && a->position == b->position && a->closed == b->closed
+           && a->marks == b->marks;
 }
 
 static void print_state(const char *what, const nb_state *state)
 {
     printf("compare-chains: %s id %" PRIu32 ", recording %" PRIu64 ", capacity %" PRIu64
-           ", zone %" PRIu64 ", position %" PRIu64 ", closed %u",
+           ", zone %" PRIu64 ", position %" PRIu64 ", closed %u, marks %" PRIu64,
            what, state->id, state->recording, (uint64_t)state->capacity,
-           (uint64_t)state->zone, (uint64_t)state->position, state->closed);
+           (uint64_t)state->zone, (uint64_t)state->position, state->closed,
+           (uint64_t)state->marks);
 }
 
 static void print_answer(const char *whose, const nb_wrote *wrote)
@@ -280,13 +295,39 @@ static bool agree(nb_wrote *answer)
     return same;
 }
 
+/* What the state says of file marks, and what a report finds in the image as
+ * it stands: of the library, and of the peer. */
+static bool well_counted(void)
+{
+    const nb_state *s = &chain.state;
+    struct identity identity = {key.peer + GUARD, NB_KEY_BYTES, s->id, s->recording};
+    struct report peer = reader_report(&identity, image.peer + GUARD, s->capacity * BLOCK_BYTES);
+    nb_tally kit = nb_report(key.kit + GUARD, NB_KEY_BYTES, s->id, s->recording,
+                             image.kit + GUARD, s->capacity * BLOCK_BYTES);
+
+    reports++;
+    if (kit.number == NB_DONE && kit.marks == s->marks
+        && peer.number == 0 && peer.counts[OUTCOME_MARK] == s->marks)
+        return true;
+    print_state("a report counts other file marks:", s);
+    printf(", library %" PRIu64 ", peer %" PRIu64 "\n", (uint64_t)kit.marks,
+           (uint64_t)peer.counts[OUTCOME_MARK]);
+    return false;
+}
+
 /* A strayed state is left behind; so is a refused start's in one of two. */
 static void go_on(const nb_wrote *answer)
 {
-    if (now.strayed)
+    bool refused = answer->reply == NB_REFUSED;
+
+    if (now.strayed) {
+        chain.own = chain.own && refused;
         return;
-    if (now.verb == START && answer->reply == NB_REFUSED && once_in(2))
+    }
+    if (now.verb == START && refused && once_in(2))
         return;
+    if (now.verb == START)
+        chain.own = !refused;
     chain.state = answer->state;
 }
 
@@ -301,6 +342,8 @@ static bool run_chain(uint64_t *calls)
 
     chain.capacity = draw_capacity();
     chain.scribbled = once_in(2);
+    chain.counted = !chain.scribbled && chain.capacity < 14 && once_in(3);
+    chain.own = false;
     chain.state = none;
     strip_noise(&image, ROOM);
     strip_copy(&image);
@@ -315,6 +358,8 @@ static bool run_chain(uint64_t *calls)
         if (!agree(&answer))
             return false;
         go_on(&answer);
+        if (chain.counted && chain.own && !well_counted())
+            return false;
         begun = begun || !patient || answer.reply != NB_REFUSED;
     }
     return true;
@@ -347,7 +392,8 @@ int main(int argc, char **argv)
         }
         total += calls;
     }
-    printf("compare-chains: %" PRIu64 " chains, %" PRIu64 " calls agree (seed %" PRIu64 ")\n",
-           chains, total, seed);
+    printf("compare-chains: %" PRIu64 " chains, %" PRIu64 " calls agree, behind %" PRIu64
+           " of them the reports on file marks too (seed %" PRIu64 ")\n",
+           chains, total, reports, seed);
     return 0;
 }

@@ -103,6 +103,15 @@ static void try_writer_refusals(void)
     check("closed at c", refused(record(odd, 0), 6));
     odd.position = 0;
     check("closed at 0", refused(finish(odd), 8));
+    odd = writer;
+    odd.marks = 1;
+    check("more marks than blocks", refused(mark(odd), 8));
+    odd.position = 1;
+    check("as many marks as blocks", mark(odd).result == RESULT_PLAIN);
+    odd.closed = true;
+    check("closed, as many", refused(mark(odd), 6));
+    odd.marks = 2;
+    check("closed, more", refused(mark(odd), 8));
     check("2 before 8", refused(writer_close(odd, image, 2048, key, 23), 2));
     check("1 before 2", refused(writer_close(odd, image, 2047, key, 23), 1));
 }
@@ -246,6 +255,8 @@ static size_t lay_random(uint64_t blocks, struct answer kept[IMAGE_MOST])
         size_t length = 1 + draw(draw(3) ? 1500 : RECORD_BYTES);
         struct reply reply = is_mark ? mark(writer) : record(writer, length);
         check("own blocks alone", only_between(writer.position, reply.writer.position));
+        check("a mark counts where it was taken", reply.writer.marks - writer.marks
+              == (is_mark && reply.result != RESULT_REFUSED));
         if (reply.result != RESULT_REFUSED) {
             struct answer made = {is_mark ? OUTCOME_MARK : OUTCOME_RECORD,
                                   is_mark ? 0 : length, reply.writer.position};

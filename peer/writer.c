@@ -24,6 +24,8 @@ bool writer_lawful(struct writer writer, size_t image_length)
 
     if (c == 0 || writer.capacity != c || writer.zone < 1 || writer.zone > c - 1)
         return false;
+    if (writer.marks > writer.position)
+        return false;
     if (writer.closed)
         return writer.position >= 1 && writer.position <= c;
     return writer.position <= c - 1;
@@ -88,9 +90,9 @@ static void lay_record(struct writer *writer, uint8_t *image, const uint8_t *key
 struct reply writer_start(uint8_t *image, size_t image_length,
                           uint32_t cartridge, uint64_t recording, uint64_t zone)
 {
-    struct writer none = {0, 0, 0, 0, 0, true};
+    struct writer none = {0, 0, 0, 0, 0, true, 0};
     uint64_t c = image_capacity(image_length);
-    struct writer writer = {cartridge, recording, c, zone, 0, false};
+    struct writer writer = {cartridge, recording, c, zone, 0, false, 0};
 
     if (c == 0)
         return refused(none, 1);
@@ -127,6 +129,7 @@ struct reply writer_mark(struct writer writer, uint8_t *image, size_t image_leng
     if (!fits(writer, 1))
         return refused(writer, 5);
     lay_blank(&writer, image, key, KIND_MARK);
+    writer.marks++;
     return accepted(writer, RESULT_PLAIN);
 }
 

@@ -13,6 +13,7 @@ struct writer {
     uint64_t zone; /* of the early warning */
     uint64_t position;
     bool closed;
+    uint64_t marks; /* file marks written so far */
 };
 
 enum result { RESULT_PLAIN, RESULT_WARNED, RESULT_REFUSED };

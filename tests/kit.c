@@ -131,19 +131,19 @@ static int refused(nb_wrote w, uint8_t number, nb_state given)
     nb_state s = w.state;
 
     return w.reply == NB_REFUSED && w.number == number && s.id == given.id && s.recording == given.recording && s.capacity == given.capacity
-           && s.zone == given.zone && s.position == given.position && s.closed == given.closed;
+           && s.zone == given.zone && s.position == given.position && s.closed == given.closed && s.marks == given.marks;
 }
 
 static void starting(void)
 {
-    static const nb_state none = {0, 0, 0, 0, 0, 1};
+    static const nb_state none = {0, 0, 0, 0, 0, 1, 0};
     nb_wrote w = nb_start(1, 1, BLOCKS, image, sizeof image);
 
     IS(refused(w, NB_WRONG_ZONE, none) && refused(record(w.state, 1), NB_UNLAWFUL, none));
     IS(refused(nb_start(1, 1, 1, image, 3 * NB_BLOCK_BYTES), NB_WRONG_IMAGE, none));
     w = nb_start(1, 1, 3, image, sizeof image);
     IS(w.reply == NB_PLAIN && w.number == 0 && w.state.id == 1 && w.state.recording == 1 && w.state.capacity == BLOCKS);
-    IS(w.state.zone == 3 && w.state.position == 0 && w.state.closed == 0);
+    IS(w.state.zone == 3 && w.state.position == 0 && w.state.closed == 0 && w.state.marks == 0);
 }
 
 /* The rehearsal. */
@@ -155,16 +155,16 @@ static nb_state writing(void)
     memset(buffer, 0x5A, sizeof buffer);
     s = record(s, 5).state;
     w = record(s, NB_BLOCK_PAYLOAD + 1);
-    IS(w.state.position == 3 && w.reply == NB_PLAIN);
+    IS(w.state.position == 3 && w.state.marks == 0 && w.reply == NB_PLAIN);
     w = mark(w.state);
-    IS(w.state.position == 4 && w.reply == NB_PLAIN);
+    IS(w.state.position == 4 && w.state.marks == 1 && w.reply == NB_PLAIN);
     w = record(w.state, 3 * NB_BLOCK_PAYLOAD);
     IS(w.state.position == 7 && w.reply == NB_WARNED && w.number == 0);
     s = w.state;
     IS(refused(record(s, 1), NB_NO_ROOM, s) && refused(mark(s), NB_NO_ROOM, s));
     IS(refused(record(s, 0), NB_WRONG_RECORD, s) && refused(record(s, NB_RECORD_MAX + 1), NB_WRONG_RECORD, s));
     w = finish(s);
-    IS(w.state.position == 8 && w.state.closed == 1 && w.reply == NB_PLAIN);
+    IS(w.state.position == 8 && w.state.closed == 1 && w.state.marks == 1 && w.reply == NB_PLAIN);
     s = w.state;
     IS(refused(record(s, 1), NB_CLOSED, s) && refused(mark(s), NB_CLOSED, s) && refused(finish(s), NB_CLOSED, s));
     return s;
@@ -186,8 +186,20 @@ static void unlawful(nb_state s)
     }
     s.closed = 0;
     IS(refused(finish(s), NB_UNLAWFUL, s) && refused(nb_record(s, key, 25, buffer, 1, image, sizeof image), NB_WRONG_LENGTH, s));
+    s.closed = 1;
+    s.marks = s.position + 1;
+    IS(refused(record(s, 1), NB_UNLAWFUL, s) && refused(mark(s), NB_UNLAWFUL, s) && refused(finish(s), NB_UNLAWFUL, s));
+    s.marks = SIZE_MAX;
+    IS(refused(mark(s), NB_UNLAWFUL, s));
+    s.marks = s.position;
+    IS(refused(mark(s), NB_CLOSED, s));
+    s.closed = 0;
+    s.position = 2;
+    s.marks = 3;
+    IS(refused(record(s, 1), NB_UNLAWFUL, s) && refused(mark(s), NB_UNLAWFUL, s) && refused(finish(s), NB_UNLAWFUL, s));
     s.position = 0;
     s.closed = 1;
+    s.marks = 0;
     IS(refused(mark(s), NB_UNLAWFUL, s));
     IS(memcmp(before, image, sizeof before) == 0);
 }
@@ -278,7 +290,7 @@ static void nothing_sealed(void)
 
 static void nothing_recorded(void)
 {
-    static const nb_state none = {0, 0, 0, 0, 0, 1};
+    static const nb_state none = {0, 0, 0, 0, 0, 1, 0};
     nb_state s = nb_start(1, 2, 3, image, sizeof image).state;
     nb_part part = nb_record_part(NULL, 0, 5), look = nb_look(NULL, 0, 0);
 

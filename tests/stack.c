@@ -28,7 +28,7 @@ static uint8_t text[LONG], sealed[LONG + NB_TAG_BYTES], back[LONG];
 static const uint8_t key[NB_KEY_BYTES] = {1, 2, 3}, nonce[NB_NONCE_BYTES] = {4, 5};
 
 /* lawful for the reel: each call of the writer on it is taken */
-static const nb_state blank = {1, 1, BLOCKS, 1, 0, 0};
+static const nb_state blank = {1, 1, BLOCKS, 1, 0, 0, 0};
 
 static int read_everywhere(void)
 {

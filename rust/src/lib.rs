@@ -271,10 +271,11 @@ impl State {
     }
 
     /// A state that was kept elsewhere, as in a file beside the image. It must be the last one of its recording: going on from an older one
-    /// uses nonces twice, and no call can see that.
-    pub fn restored(id: u32, recording: u64, capacity: usize, zone: usize, position: usize, closed: bool) -> State {
+    /// uses nonces twice, and no call can see that. Of a state that was kept without its file marks, `marks` is what
+    /// [`Cartridge::report`] counts.
+    pub fn restored(id: u32, recording: u64, capacity: usize, zone: usize, position: usize, closed: bool, marks: usize) -> State {
         let closed = u8::from(closed);
-        State { raw: raw::NbState { id, recording, capacity, zone, position, closed } }
+        State { raw: raw::NbState { id, recording, capacity, zone, position, closed, marks } }
     }
 
     /// Writes a record of 1 to [`RECORD_MAX`] bytes.
@@ -326,6 +327,25 @@ impl State {
     #[must_use]
     pub fn closed(&self) -> bool {
         self.raw.closed != 0
+    }
+
+    /// The file marks written so far: the number of the file that the writer is in. Without a walk it says what
+    /// [`Cartridge::report`] counts in the image as it stands.
+    ///
+    /// ```
+    /// # use notchbadger::{Cartridge, State};
+    /// # let (key, mut image) = ([0; 24], [0; 8 * 512]);
+    /// let state = State::start(7, 2026, 3, &mut image)?;
+    /// let state = state.record(&key, b"of file 0", &mut image).state;
+    /// let state = state.mark(&key, &mut image).state;
+    /// let state = state.record(&key, b"of file 1", &mut image).state;
+    /// assert_eq!(state.marks(), 1);
+    /// assert_eq!(Cartridge::new(&key, 7, 2026, &image).report()?.marks, 1);
+    /// # Ok::<(), notchbadger::Cause>(())
+    /// ```
+    #[must_use]
+    pub fn marks(&self) -> usize {
+        self.raw.marks
     }
 }
 

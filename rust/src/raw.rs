@@ -20,6 +20,7 @@ pub struct NbState {
     pub zone: usize,
     pub position: usize,
     pub closed: u8,
+    pub marks: usize,
 }
 
 /// `nb_wrote`.

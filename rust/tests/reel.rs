@@ -13,20 +13,23 @@ fn written() -> (Vec<u8>, State) {
     let mut image = vec![0xFF; BLOCKS * BLOCK_BYTES];
     let state = State::start(7, 2026, 3, &mut image).expect("start");
     assert_eq!((state.id(), state.recording(), state.capacity(), state.zone()), (7, 2026, BLOCKS, 3));
-    assert_eq!((state.position(), state.closed()), (0, false));
+    assert_eq!((state.position(), state.closed(), state.marks()), (0, false, 0));
     assert!(image.iter().all(|&b| b == 0));
     let wrote = state.record(KEY, b"hello", &mut image);
     assert_eq!(wrote.reply, Reply::Plain);
     let wrote = wrote.state.record(KEY, &[0x5A; BLOCK_PAYLOAD + 1], &mut image);
-    assert_eq!((wrote.reply, wrote.state.position()), (Reply::Plain, 3));
+    assert_eq!((wrote.reply, wrote.state.position(), wrote.state.marks()), (Reply::Plain, 3, 0));
     let wrote = wrote.state.mark(KEY, &mut image);
-    assert_eq!((wrote.reply, wrote.state.position()), (Reply::Plain, 4));
+    assert_eq!((wrote.reply, wrote.state.position(), wrote.state.marks()), (Reply::Plain, 4, 1));
     let wrote = wrote.state.record(KEY, &[0xA5; 3 * BLOCK_PAYLOAD], &mut image);
     assert_eq!((wrote.reply, wrote.state.position()), (Reply::Warned, 7));
     let wrote = wrote.state.record(KEY, b"x", &mut image);
     assert_eq!((wrote.reply, wrote.state.position()), (Reply::Refused(Cause::NoRoom), 7));
+    let wrote = wrote.state.mark(KEY, &mut image);
+    assert_eq!((wrote.reply, wrote.state.marks()), (Reply::Refused(Cause::NoRoom), 1));
     let wrote = wrote.state.close(KEY, &mut image);
     assert_eq!((wrote.reply, wrote.state.position(), wrote.state.closed()), (Reply::Plain, BLOCKS, true));
+    assert_eq!(Cartridge::new(KEY, 7, 2026, &image).report().map(|tally| tally.marks), Ok(wrote.state.marks()));
     (image, wrote.state)
 }
 
@@ -70,7 +73,7 @@ fn permutes_and_back() {
     assert_eq!(round_back(&mut whole, &rounds), Ok(()));
     assert_eq!(whole, before);
     assert_eq!((minibox(0x00), minibox(0x80)), (0x18, 0x97));
-    assert_eq!(version(), 1);
+    assert_eq!(version(), 2);
 }
 
 #[test]
@@ -185,13 +188,24 @@ fn wrong_lengths_of_the_writer() {
     let state = refused(state.mark(&[], &mut image), Cause::WrongLength);
     let state = refused(state.close(KEY, &mut []), Cause::WrongImage);
     let state = refused(state.close(&[0; KEY_BYTES + 1], &mut image), Cause::WrongLength);
-    assert_eq!(state, State::restored(1, 1, BLOCKS, 3, 0, false));
+    assert_eq!(state, State::restored(1, 1, BLOCKS, 3, 0, false, 0));
     assert!(image.iter().all(|&b| b == 0));
     let closed = state.close(KEY, &mut image).state;
     let closed = refused(closed.record(KEY, b"x", &mut image), Cause::Closed);
     let closed = refused(closed.mark(KEY, &mut image), Cause::Closed);
     assert_eq!(refused(closed.close(KEY, &mut image), Cause::Closed).position(), 1);
-    let _ = refused(State::restored(1, 1, BLOCKS, 3, BLOCKS, false).mark(KEY, &mut image), Cause::Unlawful);
+    let _ = refused(State::restored(1, 1, BLOCKS, 3, BLOCKS, false, 0).mark(KEY, &mut image), Cause::Unlawful);
+}
+
+#[test]
+fn no_more_marks_than_blocks() {
+    let mut image = vec![0; BLOCKS * BLOCK_BYTES];
+    let above = refused(State::restored(1, 1, BLOCKS, 3, 2, false, 3).mark(KEY, &mut image), Cause::Unlawful);
+    assert_eq!(above, State::restored(1, 1, BLOCKS, 3, 2, false, 3));
+    let _ = refused(State::restored(1, 1, BLOCKS, 3, 2, true, usize::MAX).close(KEY, &mut image), Cause::Unlawful);
+    let _ = refused(State::restored(1, 1, BLOCKS, 3, 2, true, 2).close(KEY, &mut image), Cause::Closed);
+    let equal = State::restored(1, 1, BLOCKS, 3, 2, false, 2).mark(KEY, &mut image);
+    assert_eq!((equal.reply, equal.state.marks()), (Reply::Plain, 3));
 }
 
 #[test]

@@ -15,6 +15,7 @@ use Rattle.block.proofs.RoundTrip.{zeros-shut}
 use Rattle.writer.specs.declared.WriterState.{WriterState}
 use Rattle.writer.specs.Items.{Item}
 use Rattle.writer.specs.Writing.{replyNumber, Done, zoneOk, placeOk, close, closeNumber, judged, ended}
+use Rattle.writer.proofs.InOrder.{all-marks-fit}
 use Rattle.writer.proofs.Ready.{Ready, lawful-holds}
 use Rattle.writer.proofs.Rules.{room-for-closing, closing-moves-by-1, close-number, close-when}
 use Rattle.cartridge.specs.Chain.{Call, closing, call, chain, Setup, Run, begun, left, items, shown, Proper}
@@ -40,11 +41,13 @@ module _ (a : Setup) (s : WriterState) (img : List ℕ) (is : List Item) (m : Ma
       let r = m .room in
       let g = m .large in
       let p : s .position < s .capacity = omega (arith, rw o at (m .place)) in
+      let f = all-marks-fit is in
       record {
         asked = record { image-ok = image-ok; key24 = k };
         is-lawful = lawful-holds s (capacityOf img) (record {
           capacity-is = omega arith;
           zone-ok = rw (le-leb 1 (s .zone) (z .0), lt-ltb (s .zone) (s .capacity) (omega arith));
+          marks-low = omega (arith, rw o at (m .place), m .counts);
           place-ok = rw o (lt-ltb (s .position) (s .capacity) p);
         });
         is-open = o;

@@ -21,11 +21,11 @@ use Rattle.block.proofs.ImageLaws.{Stands, AllLawful, length-lay, lay-else, lay
 use Rattle.block.proofs.RoundTrip.{zeros-shut}
 use Rattle.writer.specs.declared.WriterState.{WriterState}
 use Rattle.writer.specs.declared.Reply.the-variants.{Plain, Warned}
-use Rattle.writer.specs.Items.{Item, rec, fmark, blocksFor, size, pieces, following, recorded, blocks, layout, sizes}
+use Rattle.writer.specs.Items.{Item, rec, fmark, blocksFor, size, pieces, following, recorded, blocks, layout, sizes, fileMarks, fileMarksIn}
 use Rattle.writer.specs.Writing.{Done, moved, warns, judged, taken, ended, started, refusedState, zoneOk, startNumber, itemNumber, closeNumber, start, write, close}
 use Rattle.writer.proofs.Pieces.{length-blocks}
 use Rattle.writer.proofs.Ready.{Sound, AllSound, sound, item-fits, close-ready, zoned}
-use Rattle.writer.proofs.InOrder.{length-layout, sizes-snoc, layout-snoc, sound-snoc}
+use Rattle.writer.proofs.InOrder.{length-layout, sizes-snoc, layout-snoc, marks-snoc, sound-snoc}
 use Rattle.cartridge.specs.Chain.{Call, item, closing, call, took, chain, accepted, ItemBytes, CallBytes, AllCallBytes}
 use Rattle.cartridge.specs.Chain.{Setup, Run, begun, left, items, shown, Proper}
 use Rattle.cartridge.proofs.Laid.{endMark, laid, Blank}
@@ -76,8 +76,8 @@ lay-blank key n r img c p bs hl hr k q a b =
     subst Shut (ap (openBlock key n r q) (sym (lay-else key n r bs img p q (omega arith) (inr a)))) (k q (omega arith) b)
 
 -- ---- what holds after each call of a chain
--- The state s and the image are what accepted items `is` leave: position is their blocks, plus one once closed; the image
--- opens as their blocks, then end of data once closed, then nothing.
+-- The state s and the image are what accepted items `is` leave: position is their blocks, plus one once closed; the file marks are those
+-- among them; the image opens as their blocks, then end of data once closed, then nothing.
 pub record Made (a : Setup) (s : WriterState) (img : List ℕ) (is : List Item) : Type 0 where
   pub named : s .id ≡ a .id
   pub numbered : s .recording ≡ a .recording
@@ -88,6 +88,7 @@ pub record Made (a : Setup) (s : WriterState) (img : List ℕ) (is : List Item) 
   pub zone-in : (1 ≤ s .zone) × (s .zone ≤ s .capacity - 1)
   pub all-sound : AllSound is
   pub place : s .position ≡ sizes is + pick (s .closed) 1 0
+  pub counts : s .marks ≡ fileMarksIn is
   pub room : sizes is + 1 ≤ s .capacity
   pub stands : Stands (shown a img) 0 (laid is (s .closed))
   pub blank : Blank (shown a img) (s .position) (s .capacity)
@@ -116,7 +117,7 @@ module _ (a : Setup) (s : WriterState) (img : List ℕ) (is : List Item) (m : Ma
       rw (m .named, m .numbered) (lay-blank (a .key) (a .id) (a .recording) img (s .capacity) (s .position) bs (m .long) h (m .blank))
 
   made-item : (i : Item) → Sound i → ItemBytes i → s .position + size i ≤ s .capacity - 1
-      → Made a (moved s (s .position + size i) false) (laid-image (blocks i)) (is ++ (i ∷ []))
+      → Made a (moved s (s .position + size i) false (s .marks + fileMarks i)) (laid-image (blocks i)) (is ++ (i ∷ []))
   made-item i d b h =
       let g = m .large in
       let l : s .position + length (blocks i) ≤ s .capacity = rw length-blocks (omega arith) in
@@ -130,12 +131,13 @@ module _ (a : Setup) (s : WriterState) (img : List ℕ) (is : List Item) (m : Ma
         long = length-laid-image (blocks i) l;
         all-sound = sound-snoc is i (m .all-sound) d;
         place = rw sizes-snoc (omega (arith, spot));
+        counts = rw (marks-snoc, m .counts);
         room = rw sizes-snoc (omega (arith, spot));
         stands = rw (layout-snoc, append-nil) (stands-laid (blocks i) l (lawful-blocks i (s .position) d b));
         blank = rw length-blocks at (blank-laid (blocks i) l);
       }
 
-  made-close : Made a (moved s (s .position + 1) true) (laid-image (head eod ∷ [])) is
+  made-close : Made a (moved s (s .position + 1) true (s .marks)) (laid-image (head eod ∷ [])) is
   made-close =
       let r = m .room in
       record {
@@ -146,6 +148,7 @@ module _ (a : Setup) (s : WriterState) (img : List ℕ) (is : List Item) (m : Ma
         large = m .large;
         zone-in = m .zone-in;
         all-sound = m .all-sound;
+        counts = m .counts;
         room = m .room;
         long = length-laid-image (head eod ∷ []) (omega (arith, spot));
         place = omega (arith, spot);
@@ -220,6 +223,7 @@ made-start a h = go (imageOk (a .fresh)) (zoneOk (capacityOf (a .fresh)) (a .zon
           wide = refl;
           all-sound = tt;
           place = refl;
+          counts = refl;
           long = length-replicate (length (a .fresh)) 0 ∙ w .blocks;
           small = w .most;
           large = w .least;

@@ -30,7 +30,7 @@ closedState domain n = padClose domain n (replicate 64 0)
 -- a record of n zeros at block p of a recording with c = 16 and e = 4
 unfoldable pub recordAt : ℕ → ℕ → Done
 recordAt p n =
-    write (record { id = 0; recording = 0; capacity = 16; zone = 4; position = p; closed = false }) (replicate 24 0) (replicate 8192 0)
+    write (record { id = 0; recording = 0; capacity = 16; zone = 4; position = p; closed = false; marks = 0 }) (replicate 24 0) (replicate 8192 0)
     (rec (replicate n 0))
 
 -- 1 where the answer warns

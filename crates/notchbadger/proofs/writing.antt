@@ -1,4 +1,5 @@
 -- How the writer's calls cross.
 pub mod Crossing
 pub mod Chained
+pub mod FileNumber
 pub mod Unique

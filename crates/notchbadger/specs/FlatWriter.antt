@@ -30,6 +30,7 @@ flatState w =
       zone = w .zone;
       position = w .position;
       closed = flag (w .closed);
+      marks = w .marks;
     }
 
 abbrev pub stateOf : NbState → WriterState
@@ -41,6 +42,7 @@ stateOf s =
       zone = s .zone;
       position = s .position;
       closed = eqb (s .closed) 1;
+      marks = s .marks;
     }
 
 abbrev pub flatWrote : Wrote → NbWrote

@@ -20,6 +20,7 @@ pub struct NbState {
     pub zone: usize,
     pub position: usize,
     pub closed: u8,
+    pub marks: usize,
 }
 
 #[repr(C)]
@@ -72,6 +73,7 @@ fn flat_state(state: WriterState) -> NbState
         zone: state.zone,
         position: state.position,
         closed: flag_of(state.closed),
+        marks: state.marks,
     }
 }
 
@@ -99,6 +101,7 @@ fn state_of(state: NbState) -> WriterState
         zone: state.zone,
         position: state.position,
         closed: state.closed == 1,
+        marks: state.marks,
     }
 }
 

@@ -1,5 +1,6 @@
 -- The report's counts are those of the walk: as many of each outcome as visits of the walk say it.
 -- Assumes nothing.
+use borrow.Author.Tests.{ne-eqb}
 use mathlib.Core.Path.{_≡_, sym, ap, _∙_}
 use mathlib.Core.List.{List, [], _∷_}
 use Prim.Native.Nat.{ℕ, _+_, _<_}
@@ -20,6 +21,12 @@ tallied-at (x ∷ w) t k h =
     let j = placeOf (x .says) in
     let n = length-set t j (getD t j 0 + 1) in
     tallied-at w (counted j t) k (omega arith) ∙ omega (arith, counted-at t j k h)
+
+-- where it is refused
+pub report-refused : (key : List ℕ) (id recording : ℕ) (image : List ℕ) → (reportNumber key image ≡ 0 → ⊥)
+    → reportOf key id recording image ≡ tallyOf (reportNumber key image) uncounted
+unfolding reportOf
+report-refused key id recording image n = rw (ne-eqb (reportNumber key image) 0 n)
 
 -- where nothing is refused
 pub report-counts : (key : List ℕ) (id recording : ℕ) (image : List ℕ) → reportNumber key image ≡ 0

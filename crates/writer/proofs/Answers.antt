@@ -4,13 +4,14 @@ use mathlib.Core.Path.{_≡_, refl, sym, ap, _∙_}
 use mathlib.Core.Bool.{Bool, false}
 use mathlib.Core.List.{List}
 use Prim.Native.Nat.{ℕ, _+_, _-_}
+use native.Mathlib.Omega.{arith}
 use lib.Dec.{ltb}
 use lib.ListN.{length}
 use Rattle.laws.specs.Choose.{pick}
 use Rattle.writer.specs.declared.WriterState.{WriterState}
 use Rattle.writer.specs.declared.Reply.the-variants.{Plain, Warned, Refused}
 use Rattle.writer.specs.declared.Wrote.{Wrote}
-use Rattle.writer.specs.Items.{Item, rec, blocksFor, size}
+use Rattle.writer.specs.Items.{Item, rec, blocksFor, size, fileMarks}
 use Rattle.writer.specs.Writing.{itemNumber, closeNumber, Done, stay, judged, moved, warns, taken, ended, wroteOf, write, close, Did}
 use Rattle.writer.proofs.Judged.{judged-refused}
 
@@ -46,6 +47,9 @@ module _ (s : WriterState) (key image : List ℕ) where
 -- the answer of a record that is taken, as the code makes it: k is the count of its blocks, t whether it is in the zone
 pub record-said : (s : WriterState) (b : List ℕ) (k : ℕ) {t : Bool} → k ≡ blocksFor (length b) → s .closed ≡ false
     → ltb (s .capacity - s .zone) (s .position + k) ≡ t
-    → _≡_ {A = Wrote} (record { state = moved s (s .position + k) (s .closed); reply = pick t Warned Plain })
-    (record { state = moved s (s .position + size (rec b)) false; reply = warns s (rec b) (s .position + size (rec b)) })
-record-said s b k e o w = rw (← w, o, e)
+    → _≡_ {A = Wrote} (record { state = moved s (s .position + k) (s .closed) (s .marks); reply = pick t Warned Plain })
+    (record {
+      state = moved s (s .position + size (rec b)) false (s .marks + fileMarks (rec b));
+      reply = warns s (rec b) (s .position + size (rec b));
+    })
+record-said s b k e o w = let n : s .marks + fileMarks (rec b) ≡ s .marks = omega arith in rw (← w, o, e, n)

@@ -6,7 +6,7 @@ use Prim.Native.Nat.{ℕ, zero, suc, _+_, _*_, _≤_}
 use native.Mathlib.Nat.{add-zero, zero-add}
 use native.Mathlib.Omega.{arith}
 use lib.ListN.{length, drop, length-append, length-drop, take-append-drop}
-use Rattle.writer.specs.Items.{Item, rec, fmark, blocksFor, size, pieces, blocks, layout, sizes}
+use Rattle.writer.specs.Items.{Item, rec, fmark, blocksFor, size, pieces, blocks, layout, sizes, fileMarks, fileMarksIn}
 use Rattle.writer.proofs.Pieces.{length-pieces, length-blocks}
 use Rattle.writer.proofs.Ready.{Lengthy, Sound, AllSound}
 
@@ -26,6 +26,19 @@ layout-snoc (j ∷ is) i = rw (layout-snoc is i) (sym (append-assoc (blocks j) (
 pub sound-snoc : (is : List Item) (i : Item) → AllSound is → Sound i → AllSound (is ++ (i ∷ []))
 sound-snoc [] i h k = (k, tt)
 sound-snoc (j ∷ is) i h k = (h .0, sound-snoc is i (h .1) k)
+
+pub marks-snoc : (is : List Item) (i : Item) → fileMarksIn (is ++ (i ∷ [])) ≡ fileMarksIn is + fileMarks i
+marks-snoc [] i = simp (add-zero, zero-add)
+marks-snoc (j ∷ is) i = rw (marks-snoc is i) (omega arith)
+
+-- ---- no more file marks than blocks
+pub marks-fit : (i : Item) → fileMarks i ≤ size i
+marks-fit (rec b) = omega arith
+marks-fit fmark = omega arith
+
+pub all-marks-fit : (is : List Item) → fileMarksIn is ≤ sizes is
+all-marks-fit [] = omega arith
+all-marks-fit (i ∷ is) = let a = marks-fit i in let b = all-marks-fit is in omega arith
 
 pub size-pos : (i : Item) → Sound i → 1 ≤ size i
 size-pos (rec b) d = d .some

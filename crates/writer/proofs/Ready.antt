@@ -1,6 +1,6 @@
 -- What every call on a state asks first: what its number says, and what holds where it refuses nothing.
 -- Assumes nothing.
-use borrow.Author.Tests.{eq-eqb, eqb-true, leb-true, ltb-true, not-true}
+use borrow.Author.Tests.{eq-eqb, eqb-true, le-leb, leb-true, ltb-true, not-true}
 use mathlib.Core.Path.{_≡_, refl, sym, ap, _∙_}
 use mathlib.Core.Bool.{Bool, true, false, not, _&&_}
 use mathlib.Core.List.{List, [], _∷_}
@@ -14,7 +14,7 @@ use Rattle.block.specs.Image.{capacityOf, imageThenKey}
 use Rattle.block.proofs.ImageSize.{Asked, image-sized, asks-refused, asks-rest, asked}
 use Rattle.writer.specs.declared.WriterState.{WriterState}
 use Rattle.writer.specs.Items.{Item, rec, fmark, blocksFor, size}
-use Rattle.writer.specs.Writing.{zoneOk, placeOk, lawful, lengthOk, room, callNumber, itemNumber, closeNumber}
+use Rattle.writer.specs.Writing.{zoneOk, placeOk, marksOk, lawful, lengthOk, room, callNumber, itemNumber, closeNumber}
 
 -- a call that finds image, key and state as they should be, and the recording open
 pub record Ready (s : WriterState) (key image : List ℕ) : Type 0 where
@@ -36,21 +36,36 @@ zoned c e z =
 pub record StateLawful (s : WriterState) (c : ℕ) : Type 0 where
   pub capacity-is : s .capacity ≡ c
   pub zone-ok : zoneOk (s .capacity) (s .zone) ≡ true
+  pub marks-low : s .marks ≤ s .position
   pub place-ok : placeOk s ≡ true
 
 pub lawfully : (s : WriterState) (c : ℕ) → lawful s c ≡ true → StateLawful s c
-unfolding lawful
+unfolding lawful marksOk
 lawfully s c e =
-    let f = both-right (eqb (s .capacity) c) (zoneOk (s .capacity) (s .zone) && placeOk s) e in
+    let f = both-right (eqb (s .capacity) c) (zoneOk (s .capacity) (s .zone) && (marksOk s && placeOk s)) e in
+    let g = both-right (zoneOk (s .capacity) (s .zone)) (marksOk s && placeOk s) f in
     record {
-      capacity-is = eqb-true (s .capacity) c (both-left (eqb (s .capacity) c) (zoneOk (s .capacity) (s .zone) && placeOk s) e);
-      zone-ok = both-left (zoneOk (s .capacity) (s .zone)) (placeOk s) f;
-      place-ok = both-right (zoneOk (s .capacity) (s .zone)) (placeOk s) f;
+      capacity-is = eqb-true (s .capacity) c (both-left (eqb (s .capacity) c) (zoneOk (s .capacity) (s .zone) && (marksOk s && placeOk s)) e);
+      zone-ok = both-left (zoneOk (s .capacity) (s .zone)) (marksOk s && placeOk s) f;
+      marks-low = leb-true (s .marks) (s .position) (both-left (marksOk s) (placeOk s) g);
+      place-ok = both-right (marksOk s) (placeOk s) g;
     }
 
+-- with the other tests passed the place decides
+pub place-decides : (s : WriterState) (c : ℕ) → s .capacity ≡ c → zoneOk (s .capacity) (s .zone) ≡ true → s .marks ≤ s .position → lawful s c ≡ placeOk s
+unfolding lawful marksOk
+place-decides s c e z m = rw (eq-eqb (s .capacity) c e, z, le-leb (s .marks) (s .position) m)
+
+pub place-open : (s : WriterState) → s .closed ≡ false → placeOk s ≡ ltb (s .position) (s .capacity)
+unfolding placeOk
+place-open s o = rw o
+
+pub place-closed : (s : WriterState) → s .closed ≡ true → 1 ≤ s .position → placeOk s ≡ leb (s .position) (s .capacity)
+unfolding placeOk
+place-closed s o h = rw (o, le-leb 1 (s .position) h)
+
 pub lawful-holds : (s : WriterState) (c : ℕ) → StateLawful s c → lawful s c ≡ true
-unfolding lawful
-lawful-holds s c l = rw (eq-eqb (s .capacity) c (l .capacity-is), l .zone-ok, l .place-ok)
+lawful-holds s c l = place-decides s c (l .capacity-is) (l .zone-ok) (l .marks-low) ∙ l .place-ok
 
 -- all of it, for a call that is ready
 pub record Facts (s : WriterState) (image : List ℕ) : Type 0 where
@@ -60,10 +75,7 @@ pub record Facts (s : WriterState) (image : List ℕ) : Type 0 where
   pub zone-low : 1 ≤ s .zone
   pub zone-high : s .zone < s .capacity
   pub before-held : s .position < s .capacity
-
-open-place : (s : WriterState) → s .closed ≡ false → placeOk s ≡ true → s .position < s .capacity
-unfolding placeOk
-open-place s o e = ltb-true (s .position) (s .capacity) (rw o at e)
+  pub marks-low : s .marks ≤ s .position
 
 pub facts : {s : WriterState} {key image : List ℕ} → Ready s key image → Facts s image
 facts {s} {key} {image} r =
@@ -77,7 +89,8 @@ facts {s} {key} {image} r =
       most = omega arith;
       zone-low = z .low;
       zone-high = z .high;
-      before-held = open-place s (r .is-open) (l .place-ok);
+      before-held = ltb-true (s .position) (s .capacity) (sym (place-open s (r .is-open)) ∙ l .place-ok);
+      marks-low = l .marks-low;
     }
 
 -- ---- the number: a refusal is the same whatever comes after, and with refusedState the rest decides

@@ -1,7 +1,7 @@
 -- The rules of writing, of the definitions `start`, `write` and `close`: what is taken, what a refusal leaves, how far the position moves,
 -- when a record is warned, and that the state stays lawful.
 -- Assumes nothing.
-use borrow.Author.Tests.{lt-ltb, le-ltb, ltb-true, le-leb, eq-eqb}
+use borrow.Author.Tests.{lt-ltb, le-ltb, ltb-true, le-leb, lt-leb, eq-eqb}
 use mathlib.Core.Path.{_≡_, refl, sym, ap, _∙_}
 use mathlib.Core.Bool.{Bool, true, false, _&&_}
 use mathlib.Core.List.{List}
@@ -14,10 +14,11 @@ use Rattle.block.specs.Image.{capacityOf, imageOk}
 use Rattle.block.proofs.ImageSize.{image-sized}
 use Rattle.writer.specs.declared.WriterState.{WriterState}
 use Rattle.writer.specs.declared.Reply.the-variants.{Plain, Warned, Refused}
-use Rattle.writer.specs.Items.{Item, rec, fmark, size}
-use Rattle.writer.specs.Writing.{replyNumber, zoneOk, placeOk, lawful, lengthOk, room, startNumber, itemNumber, closeNumber}
+use Rattle.writer.specs.Items.{Item, rec, fmark, size, fileMarks}
+use Rattle.writer.specs.Writing.{replyNumber, zoneOk, placeOk, marksOk, lawful, lengthOk, room, startNumber, itemNumber, closeNumber}
 use Rattle.writer.specs.Writing.{Done, stay, judged, moved, warns, refusedState, started, taken, ended, start, write, close}
 use Rattle.writer.proofs.Judged.{judged-number, judged-says}
+use Rattle.writer.proofs.InOrder.{marks-fit}
 use Rattle.writer.proofs.Ready.{Ready, facts, StateLawful, lawfully, lawful-holds, call-asks, close-ready, item-asks, item-fits}
 
 -- ---- the number in the answer is that of the first cause, and 0 says that the call was taken
@@ -49,6 +50,10 @@ write-says s key image i = judged-says (taken s key image i) s image (warns-0 s 
 pub close-says : (s : WriterState) (key image : List ℕ) → replyNumber (close s key image .reply) ≡ close s key image .number
 unfolding close
 close-says s key image = judged-says (ended s key image) s image refl (closeNumber s key image)
+
+pub start-says : (id recording e : ℕ) (image : List ℕ) → replyNumber (start id recording e image .reply) ≡ start id recording e image .number
+unfolding start
+start-says id recording e image = judged-says (started id recording e image) refusedState image refl (startNumber image e)
 
 -- ---- what a call is, by its number
 pub write-when : (s : WriterState) (key image : List ℕ) (i : Item) (n : ℕ) → replyNumber (write s key image i .reply) ≡ n
@@ -130,13 +135,13 @@ refused-start id recording e image n q =
     let w = start-when id recording e image (suc n) q in
     (ap (λ (d : Done). d .image) w, λ c. rw w (and-false (eqb 0 c)))
 
--- ---- the position moves by the item's size, by one at the closing
+-- ---- the position moves by the item's size, by one at the closing; a mark counts as one, and nothing else counts
 pub moves-by-size : (s : WriterState) (key image : List ℕ) (i : Item) → replyNumber (write s key image i .reply) ≡ 0
-    → write s key image i .state ≡ moved s (s .position + size i) false
+    → write s key image i .state ≡ moved s (s .position + size i) false (s .marks + fileMarks i)
 moves-by-size s key image i e = ap (λ (d : Done). d .state) (write-when s key image i 0 e)
 
 pub closing-moves-by-1 : (s : WriterState) (key image : List ℕ) → replyNumber (close s key image .reply) ≡ 0
-    → close s key image .state ≡ moved s (s .position + 1) true
+    → close s key image .state ≡ moved s (s .position + 1) true (s .marks)
 closing-moves-by-1 s key image e = ap (λ (d : Done). d .state) (close-when s key image 0 e)
 
 -- ---- warned exactly
@@ -164,27 +169,43 @@ mark-plain s key image e = warned-says s key image fmark e
 pub closing-plain : (s : WriterState) (key image : List ℕ) → replyNumber (close s key image .reply) ≡ 0 → close s key image .reply ≡ Plain
 closing-plain s key image e = ap (λ (d : Done). d .reply) (close-when s key image 0 e)
 
+-- ---- a number of file marks above the position is unlawful, whatever else the state says
+pub marks-above : (s : WriterState) (c : ℕ) → s .position < s .marks → lawful s c ≡ false
+unfolding lawful marksOk
+marks-above s c h =
+    rw (lt-leb (s .marks) (s .position) h, and-false (zoneOk (s .capacity) (s .zone))) (and-false (eqb (s .capacity) c))
+
 -- ---- the state stays lawful
-open-holds : (s : WriterState) (p c : ℕ) → StateLawful s c → p < c → lawful (moved s p false) c ≡ true
+open-holds : (s : WriterState) (p n c : ℕ) → StateLawful s c → p < c → n ≤ p → lawful (moved s p false n) c ≡ true
 unfolding placeOk
-open-holds s p c l h =
-    lawful-holds (moved s p false) c
-    (record { capacity-is = l .capacity-is; zone-ok = l .zone-ok; place-ok = lt-ltb p (s .capacity) (omega (arith, l .capacity-is)) })
+open-holds s p n c l h m =
+    lawful-holds (moved s p false n) c (record {
+      capacity-is = l .capacity-is;
+      zone-ok = l .zone-ok;
+      marks-low = m;
+      place-ok = lt-ltb p (s .capacity) (omega (arith, l .capacity-is));
+    })
 
 pub stays-lawful : (s : WriterState) (key image : List ℕ) (i : Item) → replyNumber (write s key image i .reply) ≡ 0
     → lawful (write s key image i .state) (capacityOf image) ≡ true
 stays-lawful s key image i e =
     let t = item-fits s key image i (sym (write-number s key image i) ∙ e) in
     let f = facts (t .ready) in
+    let m = marks-fit i in
     rw (moves-by-size s key image i e)
-    (open-holds s (s .position + size i) (capacityOf image) (lawfully s (capacityOf image) (t .ready .is-lawful)) (omega arith))
+    (open-holds s (s .position + size i) (s .marks + fileMarks i) (capacityOf image) (lawfully s (capacityOf image) (t .ready .is-lawful))
+    (omega arith) (omega arith))
 
-closed-holds : (s : WriterState) (p c : ℕ) → StateLawful s c → 1 ≤ p → p ≤ c → lawful (moved s p true) c ≡ true
+closed-holds : (s : WriterState) (p c : ℕ) → StateLawful s c → 1 ≤ p → p ≤ c → s .marks ≤ p → lawful (moved s p true (s .marks)) c ≡ true
 unfolding placeOk
-closed-holds s p c l n h =
-    let m : p ≤ s .capacity = omega (arith, l .capacity-is) in
-    lawful-holds (moved s p true) c
-    (record { capacity-is = l .capacity-is; zone-ok = l .zone-ok; place-ok = rw (le-leb 1 p n, le-leb p (s .capacity) m) })
+closed-holds s p c l n h m =
+    let g : p ≤ s .capacity = omega (arith, l .capacity-is) in
+    lawful-holds (moved s p true (s .marks)) c (record {
+      capacity-is = l .capacity-is;
+      zone-ok = l .zone-ok;
+      marks-low = m;
+      place-ok = rw (le-leb 1 p n, le-leb p (s .capacity) g);
+    })
 
 pub closing-stays-lawful : (s : WriterState) (key image : List ℕ) → replyNumber (close s key image .reply) ≡ 0
     → lawful (close s key image .state) (capacityOf image) ≡ true
@@ -192,11 +213,11 @@ closing-stays-lawful s key image e =
     let r = close-ready s key image (sym (close-number s key image) ∙ e) in
     let f = facts r in
     rw (closing-moves-by-1 s key image e)
-    (closed-holds s (s .position + 1) (capacityOf image) (lawfully s (capacityOf image) (r .is-lawful)) (omega arith) (omega arith))
+    (closed-holds s (s .position + 1) (capacityOf image) (lawfully s (capacityOf image) (r .is-lawful)) (omega arith) (omega arith) (omega arith))
 
 pub start-lawful : (id recording e : ℕ) (image : List ℕ) → replyNumber (start id recording e image .reply) ≡ 0
     → lawful (start id recording e image .state) (capacityOf image) ≡ true
-unfolding startNumber lawful placeOk
+unfolding startNumber lawful placeOk marksOk
 start-lawful id recording e image q =
     let a = no-refusal (imageOk image) 0 _ (sym (start-number id recording e image) ∙ q) in
     let z = no-refusal (zoneOk (capacityOf image) e) 2 0 (a .1) in

@@ -12,7 +12,7 @@ use Rattle.writer.specs.declared.WriterState.{WriterState}
 use Rattle.writer.specs.declared.Reply.{Reply}
 use Rattle.writer.specs.declared.Reply.the-variants.{Plain, Warned, Refused}
 use Rattle.writer.specs.declared.Wrote.{Wrote}
-use Rattle.writer.specs.Items.{Item, rec, fmark, size, blocks}
+use Rattle.writer.specs.Items.{Item, rec, fmark, size, blocks, fileMarks}
 
 -- the number of each answer
 abbrev pub replyNumber : Reply → ℕ
@@ -29,9 +29,13 @@ zoneOk c e = leb 1 e && ltb e c
 unfoldable pub placeOk : WriterState → Bool
 placeOk s = pick (s .closed) (leb 1 (s .position) && leb (s .position) (s .capacity)) (ltb (s .position) (s .capacity))
 
+-- a mark takes a block, so there are no more of them than blocks before p
+unfoldable pub marksOk : WriterState → Bool
+marksOk s = leb (s .marks) (s .position)
+
 -- for an image of c blocks
 unfoldable pub lawful : WriterState → ℕ → Bool
-lawful s c = eqb (s .capacity) c && (zoneOk (s .capacity) (s .zone) && placeOk s)
+lawful s c = eqb (s .capacity) c && (zoneOk (s .capacity) (s .zone) && (marksOk s && placeOk s))
 
 -- a record has 1 to 31,232 bytes
 abbrev pub lengthOk : Item → Bool
@@ -72,8 +76,10 @@ abbrev pub judged : Done → WriterState → List ℕ → ℕ → Done
 judged d s image zero = d
 judged d s image (suc n) = stay s image (suc n)
 
-abbrev pub moved : WriterState → ℕ → Bool → WriterState
-moved s p shut = record { id = s .id; recording = s .recording; capacity = s .capacity; zone = s .zone; position = p; closed = shut }
+-- at p, with n file marks before it
+abbrev pub moved : WriterState → ℕ → Bool → ℕ → WriterState
+moved s p shut n =
+    record { id = s .id; recording = s .recording; capacity = s .capacity; zone = s .zone; position = p; closed = shut; marks = n }
 
 -- an accepted record is warned exactly if the position after it is above c - e; a mark carries no warning
 abbrev pub warns : WriterState → Item → ℕ → Reply
@@ -82,12 +88,12 @@ warns s fmark p = Plain
 
 -- the state of a refused start: lawful for no image
 abbrev pub refusedState : WriterState
-refusedState = record { id = 0; recording = 0; capacity = 0; zone = 0; position = 0; closed = true }
+refusedState = record { id = 0; recording = 0; capacity = 0; zone = 0; position = 0; closed = true; marks = 0 }
 
 abbrev pub started : ℕ → ℕ → ℕ → List ℕ → Done
 started id recording e image =
     record {
-      state = record { id = id; recording = recording; capacity = capacityOf image; zone = e; position = 0; closed = false };
+      state = record { id = id; recording = recording; capacity = capacityOf image; zone = e; position = 0; closed = false; marks = 0 };
       reply = Plain;
       number = 0;
       image = replicate (length image) 0;
@@ -96,7 +102,7 @@ started id recording e image =
 abbrev pub taken : WriterState → List ℕ → List ℕ → Item → Done
 taken s key image i =
     record {
-      state = moved s (s .position + size i) false;
+      state = moved s (s .position + size i) false (s .marks + fileMarks i);
       reply = warns s i (s .position + size i);
       number = 0;
       image = lay key (s .id) (s .recording) image (s .position) (blocks i);
@@ -105,7 +111,7 @@ taken s key image i =
 abbrev pub ended : WriterState → List ℕ → List ℕ → Done
 ended s key image =
     record {
-      state = moved s (s .position + 1) true;
+      state = moved s (s .position + 1) true (s .marks);
       reply = Plain;
       number = 0;
       image = lay key (s .id) (s .recording) image (s .position) (head eod ∷ []);

@@ -27,6 +27,7 @@ pub struct WriterState {
     pub zone: usize,
     pub position: usize,
     pub closed: bool,
+    pub marks: usize,
 }
 
 pub enum Reply {
@@ -62,6 +63,7 @@ pub fn start(id: u32, recording: u64, zone: usize, image: &mut [u8]) -> Wrote
         zone: 0,
         position: 0,
         closed: true,
+        marks: 0,
     };
     if !block::is_image(image.len()) {
         return Wrote {
@@ -84,6 +86,7 @@ pub fn start(id: u32, recording: u64, zone: usize, image: &mut [u8]) -> Wrote
         zone,
         position: 0,
         closed: false,
+        marks: 0,
     };
     Wrote {
         state,
@@ -191,6 +194,9 @@ impl WriterState {
         if !is_zone(self.capacity, self.zone) {
             return false;
         }
+        if self.position < self.marks {
+            return false;
+        }
         if self.closed {
             if self.position < 1 {
                 return false;
@@ -287,6 +293,7 @@ impl WriterState {
         }
         lay_empty(key, self.id, self.recording, p, block::Kind::Mark, image);
         self.position = p + 1;
+        self.marks = self.marks + 1;
         Wrote {
             state: self,
             reply: Reply::Plain,

@@ -49,21 +49,24 @@ lay-empty-requires c κs = let r = is-ready (c .before .before .before) in let f
 add-self : tie.Need-add-self
 add-self c = search needs
 
+add-self-2 : tie.Need-add-self-2
+add-self-2 c = let f = facts (is-ready (c .before .before .before .before .before .before .before)) in omega arith
+
 same-length-3 : tie.Need-same-length-3
 same-length-3 c = search needs
 
 returns-3 : tie.Need-returns-3
 unfolding room lay
 returns-3 c =
-    let t = c .before .before .before .before in
+    let t = c .before .before .before .before .before in
     let r = is-ready (t .before .before) in
     let s = t .before .before .before .before .before .before .before .args .self in
     let h : s .position + 1 < s .capacity = omega arith in
     write-taken _ _ _ fmark (item-asks r fmark ∙ simp (lt-ltb _ _ h))
     (record {
-      says = ap (λ (b : Bool). record { state = moved s (s .position + 1) b; reply = Plain }) (r .is-open);
+      says = ap (λ (b : Bool). record { state = moved s (s .position + 1) b (s .marks + 1); reply = Plain }) (r .is-open);
       number = refl;
-      leaves = c .before .before .lay-empty .ensures;
+      leaves = c .before .before .before .lay-empty .ensures;
     })
 
 pub mark-spec : {M : Type 1} → statement M
@@ -78,5 +81,6 @@ mark-spec =
     returns-2
     lay-empty-requires
     add-self
+    add-self-2
     same-length-3
     returns-3)
