@@ -202,8 +202,8 @@ uint8_t nb_open(const uint8_t *key, size_t key_len,
  * marks is the number of the file that the writer is in, for a panel that can't
  * wait for a walk: 0 after a start, one more with each accepted mark, the same
  * after anything else, taken or refused. From an accepted start on, while each
- * call gets the state and image that the last one left and this one key, it is
- * what nb_report counts as marks in the image as it stands. */
+ * call gets the state and the image that the last one left, under one key, it
+ * is what nb_report counts as marks in the image as it stands. */
 
 /* nb_wrote's reply. Only a record can be warned. */
 #define NB_PLAIN 0
