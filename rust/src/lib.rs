@@ -329,7 +329,7 @@ impl State {
         self.raw.closed != 0
     }
 
-    /// The file marks written so far: the number of the file that the writer is in. Without a walk it says what
+    /// The file marks written so far: the number of the file that the writer is in. From a start on it is, without a walk, what
     /// [`Cartridge::report`] counts in the image as it stands.
     ///
     /// ```

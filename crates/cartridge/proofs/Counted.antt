@@ -15,7 +15,8 @@ use Rattle.writer.specs.declared.WriterState.{WriterState}
 use Rattle.writer.specs.declared.Reply.the-variants.{Plain}
 use Rattle.writer.specs.declared.Wrote.{Wrote}
 use Rattle.writer.specs.Items.{Item, size, fileMarks, fileMarksIn}
-use Rattle.writer.specs.Writing.{Did, judged, taken, ended, itemNumber, closeNumber, write, close}
+use Rattle.writer.specs.Writing.{Done, Did, taken, ended, itemNumber, closeNumber, write, close}
+use Rattle.writer.proofs.Judged.{judged-refused}
 use Rattle.writer.proofs.Ready.{item-fits, close-ready}
 use Rattle.reader.specs.Walk.{Told, Record, Mark, End, Bad, Stray, Cut, Visit, walk}
 use Rattle.survey.specs.Marks.{howMany}
@@ -74,16 +75,11 @@ file-number r p = made r p .counts ∙ sym (marks-walked r p)
 -- without a key of 24 bytes nothing is taken
 call-keyless : (key : List ℕ) (s : WriterState) (image : List ℕ) (x : Call) → (length key ≡ 24 → ⊥) → call key s image x .state ≡ s
 unfolding write close
-call-keyless key s image (item i) n = go (itemNumber s key image i) refl
-  where
-    go : (k : ℕ) → itemNumber s key image i ≡ k → judged (taken s key image i) s image k .state ≡ s
-    go zero e = absurd (n (item-fits s key image i e .ready .asked .key24))
-    go (suc k) e = refl
-call-keyless key s image closing n = go (closeNumber s key image) refl
-  where
-    go : (k : ℕ) → closeNumber s key image ≡ k → judged (ended s key image) s image k .state ≡ s
-    go zero e = absurd (n (close-ready s key image e .asked .key24))
-    go (suc k) e = refl
+call-keyless key s image (item i) n =
+    ap (λ (d : Done). d .state)
+    (judged-refused (taken s key image i) s image (itemNumber s key image i) (λ e. n (item-fits s key image i e .ready .asked .key24)))
+call-keyless key s image closing n =
+    ap (λ (d : Done). d .state) (judged-refused (ended s key image) s image (closeNumber s key image) (λ e. n (close-ready s key image e .asked .key24)))
 
 chain-keyless : (key : List ℕ) (s : WriterState) (image : List ℕ) (xs : List Call) → (length key ≡ 24 → ⊥) → chain key s image xs .state ≡ s
 chain-keyless key s image [] n = refl
