@@ -36,27 +36,21 @@ static int store(const char *path, const uint8_t *from, size_t length)
     return 0;
 }
 
-/* Files of three records, of 1, 2 and 4 blocks, with a mark behind each file, until early warning. */
+/* Files of three records, of 1, 2 and 4 blocks, with a mark behind each file, until early warning: a record's or a mark's. */
 static int record_files(nb_state *state)
 {
     static const size_t lengths[] = {100, 600, 4 * NB_BLOCK_PAYLOAD};
-    nb_wrote wrote;
     size_t i = 0;
 
     for (;;) {
-        wrote = nb_record(*state, key, NB_KEY_BYTES, bytes, lengths[i], image, sizeof image);
+        nb_wrote wrote = i < 3 ? nb_record(*state, key, NB_KEY_BYTES, bytes, lengths[i], image, sizeof image)
+                               : nb_mark(*state, key, NB_KEY_BYTES, image, sizeof image);
         if (wrote.number != NB_DONE)
-            return refused("record", wrote.number);
+            return refused(i < 3 ? "record" : "mark", wrote.number);
         *state = wrote.state;
         if (wrote.reply == NB_WARNED)
             return 0;
-        i = (i + 1) % 3;
-        if (i != 0)
-            continue;
-        wrote = nb_mark(*state, key, NB_KEY_BYTES, image, sizeof image);
-        if (wrote.number != NB_DONE)
-            return refused("mark", wrote.number);
-        *state = wrote.state;
+        i = (i + 1) % 4;
     }
 }
 

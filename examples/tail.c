@@ -1,5 +1,5 @@
-/* The tail of the reel: one writer stops at early warning and closes in time; another ignores the warning, is refused for what no longer
- * fits, and can still close.
+/* The tail of the reel: one writer stops at early warning, ends its file with a mark, which is warned too, and closes in time; another
+ * ignores the warning, is refused for what no longer fits, and can still close.
  *
  *     cc -Iinclude examples/tail.c target/staticlib/libnotchbadger.a && ./a.out
  */
@@ -29,17 +29,42 @@ static int refused(const char *call, unsigned number)
     return 1;
 }
 
-/* Writes a record and tells how it went. Refused, the state comes back as it was: the writer can go on from it. */
-static nb_wrote record(nb_state state, size_t length)
+/* Tells how a call went. Refused, the state comes back as it was: the writer can go on from it. */
+static nb_wrote told(nb_wrote wrote)
 {
-    nb_wrote wrote = nb_record(state, key, NB_KEY_BYTES, bytes, length, image, sizeof image);
-
-    printf("record of %u at %u: ", (unsigned)length, (unsigned)state.position);
     if (wrote.number != NB_DONE)
         printf("refused, %u\n", wrote.number);
     else
         printf("%s\n", wrote.reply == NB_WARNED ? "warned" : "plain");
     return wrote;
+}
+
+static nb_wrote record(nb_state state, size_t length)
+{
+    printf("record of %u at %u: ", (unsigned)length, (unsigned)state.position);
+    return told(nb_record(state, key, NB_KEY_BYTES, bytes, length, image, sizeof image));
+}
+
+static nb_wrote mark(nb_state state)
+{
+    printf("mark at %u: ", (unsigned)state.position);
+    return told(nb_mark(state, key, NB_KEY_BYTES, image, sizeof image));
+}
+
+/* What a read has found at p; 1 where it is not what was written. */
+static int show(size_t p, nb_got got)
+{
+    if (got.outcome == NB_GOT_END) {
+        printf("%u end\n", (unsigned)p);
+    } else if (got.outcome == NB_GOT_MARK) {
+        printf("%u mark\n", (unsigned)p);
+    } else if (got.outcome == NB_GOT_RECORD && got.data <= sizeof bytes && memcmp(buffer, bytes, got.data) == 0) {
+        printf("%u record of %u\n", (unsigned)p, (unsigned)got.data);
+    } else {
+        printf("%u is not as it was written\n", (unsigned)p);
+        return 1;
+    }
+    return 0;
 }
 
 /* Closes, and walks what was written: every record comes back as it was given. */
@@ -55,15 +80,10 @@ static int close_and_walk(nb_state state)
         nb_got got = nb_read(key, NB_KEY_BYTES, ID, state.recording, image, sizeof image, p, buffer, sizeof buffer);
         if (got.number != NB_DONE)
             return refused("read", got.number);
-        if (got.outcome == NB_GOT_END) {
-            printf("%u end\n", (unsigned)p);
-            return 0;
-        }
-        if (got.outcome != NB_GOT_RECORD || got.data > sizeof bytes || memcmp(buffer, bytes, got.data) != 0) {
-            printf("%u is not as it was written\n", (unsigned)p);
+        if (show(p, got) != 0)
             return 1;
-        }
-        printf("%u record of %u\n", (unsigned)p, (unsigned)got.data);
+        if (got.outcome == NB_GOT_END)
+            return 0;
         p = got.next;
     }
     puts("no end of data");
@@ -82,6 +102,10 @@ static int careful(void)
         if (wrote.number != NB_DONE)
             return 1;
     } while (wrote.reply != NB_WARNED);
+    /* the mark that ends the file: it fits, and is in the zone too */
+    wrote = mark(wrote.state);
+    if (wrote.reply != NB_WARNED)
+        return 1;
     return close_and_walk(wrote.state);
 }
 

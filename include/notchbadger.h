@@ -205,7 +205,8 @@ uint8_t nb_open(const uint8_t *key, size_t key_len,
  * call gets the state and the image that the last one left, under one key, it
  * is what nb_report counts as marks in the image as it stands. */
 
-/* nb_wrote's reply. Only a record can be warned. */
+/* nb_wrote's reply. What is warned was written: its number is 0. Records and
+ * file marks are warned, a start and a closing never are. */
 #define NB_PLAIN 0
 #define NB_WARNED 1
 #define NB_REFUSED 2
@@ -244,17 +245,18 @@ nb_wrote nb_record(nb_state state, const uint8_t *key, size_t key_len,
                    const uint8_t *bytes, size_t bytes_len,
                    uint8_t *image, size_t image_len);
 
-/* Writes a file mark, one block, at the position, and adds one to marks. 1, 2,
- * 8, 6, 5; refused, the state comes back as it was given. Writes its own block
- * of the image, and only when not refused. */
+/* Writes a file mark, one block, at the position, and adds one to marks. Warned
+ * exactly if the position afterwards is above capacity - zone. 1, 2, 8, 6, 5;
+ * refused, the state comes back as it was given. Writes its own block of the
+ * image, and only when not refused. */
 NB_MUST_USE
 nb_wrote nb_mark(nb_state state, const uint8_t *key, size_t key_len,
                  uint8_t *image, size_t image_len);
 
 /* Writes the end of data, one block, at the position and closes the recording;
- * while it is open there is always room. 1, 2, 8, 6; refused, the state comes
- * back as it was given. Writes its own block of the image, and only when not
- * refused. */
+ * while it is open there is always room. Never warned, wherever it stands. 1,
+ * 2, 8, 6; refused, the state comes back as it was given. Writes its own block
+ * of the image, and only when not refused. */
 NB_MUST_USE
 nb_wrote nb_close(nb_state state, const uint8_t *key, size_t key_len,
                   uint8_t *image, size_t image_len);

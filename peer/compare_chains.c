@@ -37,6 +37,10 @@ static struct {
 /* How often a report was asked for the file marks. */
 static uint64_t reports;
 
+/* Marks that were taken just before the zone of the early warning begins, and
+ * just behind that. */
+static uint64_t last_plain, first_warned;
+
 /* One call. What is lent may be shorter or longer than the chain's own. */
 static struct {
     enum verb verb;
@@ -315,6 +319,16 @@ static bool well_counted(void)
     return false;
 }
 
+static void count_edge(const nb_wrote *answer)
+{
+    size_t edge = answer->state.capacity - answer->state.zone;
+
+    if (now.verb != MARK || answer->reply == NB_REFUSED)
+        return;
+    last_plain += answer->state.position == edge;
+    first_warned += answer->state.position == edge + 1;
+}
+
 /* A strayed state is left behind; so is a refused start's in one of two. */
 static void go_on(const nb_wrote *answer)
 {
@@ -357,6 +371,7 @@ static bool run_chain(uint64_t *calls)
         ++*calls;
         if (!agree(&answer))
             return false;
+        count_edge(&answer);
         go_on(&answer);
         if (chain.counted && chain.own && !well_counted())
             return false;
@@ -393,7 +408,8 @@ int main(int argc, char **argv)
         total += calls;
     }
     printf("compare-chains: %" PRIu64 " chains, %" PRIu64 " calls agree, behind %" PRIu64
-           " of them the reports on file marks too (seed %" PRIu64 ")\n",
-           chains, total, reports, seed);
+           " of them the reports on file marks too; %" PRIu64 " marks end where the warning zone begins,"
+           " %" PRIu64 " a block behind (seed %" PRIu64 ")\n",
+           chains, total, reports, last_plain, first_warned, seed);
     return 0;
 }

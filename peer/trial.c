@@ -69,9 +69,11 @@ static void try_fitting(void)
     writer = start(16, 4);
     writer.position = 11;
     check("P11, position 12", record(writer, 1).result == RESULT_PLAIN);
+    check("position 12 behind a mark", mark(writer).result == RESULT_PLAIN);
     writer.position = 12;
     check("P11, position 13", record(writer, 1).result == RESULT_WARNED);
-    check("a mark carries no warning", mark(writer).result == RESULT_PLAIN);
+    check("position 13 behind a mark", mark(writer).result == RESULT_WARNED);
+    check("a closing carries no warning", finish(writer).result == RESULT_PLAIN);
     writer.position = 13;
     check("P12, at 13", record(writer, 489).result == RESULT_WARNED);
     writer.position = 14;

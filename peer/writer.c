@@ -87,6 +87,12 @@ static void lay_record(struct writer *writer, uint8_t *image, const uint8_t *key
     }
 }
 
+/* A record and a mark are warned alike, by the position behind them. */
+static enum result by_place(const struct writer *writer)
+{
+    return writer->position > writer->capacity - writer->zone ? RESULT_WARNED : RESULT_PLAIN;
+}
+
 struct reply writer_start(uint8_t *image, size_t image_length,
                           uint32_t cartridge, uint64_t recording, uint64_t zone)
 {
@@ -115,8 +121,7 @@ struct reply writer_record(struct writer writer, uint8_t *image, size_t image_le
     if (!fits(writer, (record_length + BLOCK_PAYLOAD - 1) / BLOCK_PAYLOAD))
         return refused(writer, 5);
     lay_record(&writer, image, key, record, record_length);
-    return accepted(writer, writer.position > writer.capacity - writer.zone
-                                ? RESULT_WARNED : RESULT_PLAIN);
+    return accepted(writer, by_place(&writer));
 }
 
 struct reply writer_mark(struct writer writer, uint8_t *image, size_t image_length,
@@ -130,7 +135,7 @@ struct reply writer_mark(struct writer writer, uint8_t *image, size_t image_leng
         return refused(writer, 5);
     lay_blank(&writer, image, key, KIND_MARK);
     writer.marks++;
-    return accepted(writer, RESULT_PLAIN);
+    return accepted(writer, by_place(&writer));
 }
 
 struct reply writer_close(struct writer writer, uint8_t *image, size_t image_length,

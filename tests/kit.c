@@ -170,6 +170,22 @@ static nb_state writing(void)
     return s;
 }
 
+/* A record and a mark are warned alike, by the position afterwards: plain up to c - e, warned above it; a closing never is. */
+static void warning(void)
+{
+    nb_state s = nb_start(1, 3, 3, image, sizeof image).state;
+
+    for (s.position = 0; s.position < BLOCKS - 1; s.position++) {
+        uint8_t reply = s.position + 1 > BLOCKS - 3 ? NB_WARNED : NB_PLAIN;
+        nb_wrote r = record(s, 1), m = mark(s), f = finish(s);
+
+        IS(r.reply == reply && m.reply == reply && f.reply == NB_PLAIN);
+        IS(r.number == 0 && m.number == 0 && f.number == 0);
+        IS(m.state.position == s.position + 1 && m.state.marks == 1);
+    }
+    IS(refused(record(s, 1), NB_NO_ROOM, s) && refused(mark(s), NB_NO_ROOM, s) && finish(s).reply == NB_PLAIN);
+}
+
 /* States that are not lawful for the image, a closed flag that is neither 0 nor 1 among them: 8, behind 1 and 2. */
 static void unlawful(nb_state s)
 {
@@ -323,6 +339,7 @@ int main(void)
     operations();
     sealing();
     starting();
+    warning();
     unlawful(writing());
     one_block();
     reading();

@@ -278,17 +278,31 @@ impl State {
         State { raw: raw::NbState { id, recording, capacity, zone, position, closed, marks } }
     }
 
-    /// Writes a record of 1 to [`RECORD_MAX`] bytes.
+    /// Writes a record of 1 to [`RECORD_MAX`] bytes. It is warned exactly if the position behind it is above the capacity less the zone.
     pub fn record(self, key: &[u8], bytes: &[u8], image: &mut [u8]) -> Wrote {
         Wrote::of(raw::record(self.raw, key, bytes, image))
     }
 
-    /// Writes a file mark.
+    /// Writes a file mark. As a record it is warned exactly if the position behind it is above the capacity less the zone.
+    ///
+    /// ```
+    /// # use notchbadger::{Reply, State, BLOCK_PAYLOAD};
+    /// # let (key, mut image) = ([0; 24], [0; 8 * 512]);
+    /// // 8 blocks, of which the last 3 are the zone.
+    /// let state = State::start(7, 2026, 3, &mut image)?;
+    /// let wrote = state.record(&key, &[0; 5 * BLOCK_PAYLOAD], &mut image);
+    /// assert_eq!((wrote.reply, wrote.state.position()), (Reply::Plain, 5));
+    /// // The mark that closes the file stands in the zone: no other file should begin here.
+    /// let wrote = wrote.state.mark(&key, &mut image);
+    /// assert_eq!((wrote.reply, wrote.state.position()), (Reply::Warned, 6));
+    /// assert_eq!(wrote.state.close(&key, &mut image).reply, Reply::Plain);
+    /// # Ok::<(), notchbadger::Cause>(())
+    /// ```
     pub fn mark(self, key: &[u8], image: &mut [u8]) -> Wrote {
         Wrote::of(raw::mark(self.raw, key, image))
     }
 
-    /// Writes the end of data and closes the recording.
+    /// Writes the end of data and closes the recording. It is never warned.
     pub fn close(self, key: &[u8], image: &mut [u8]) -> Wrote {
         Wrote::of(raw::close(self.raw, key, image))
     }
@@ -355,7 +369,7 @@ impl State {
 pub enum Reply {
     /// Written.
     Plain,
-    /// Written, in the zone of the early warning. Only a record can be warned.
+    /// Written, and the position behind it is in the zone of the early warning. A record and a mark are warned alike; a closing never is.
     Warned,
     /// Not written.
     Refused(Cause),

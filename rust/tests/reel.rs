@@ -197,6 +197,20 @@ fn wrong_lengths_of_the_writer() {
     let _ = refused(State::restored(1, 1, BLOCKS, 3, BLOCKS, false, 0).mark(KEY, &mut image), Cause::Unlawful);
 }
 
+/// A record and a mark are warned alike, above the capacity less the zone; a closing never is.
+#[test]
+fn warned_by_the_position_behind_it() {
+    let mut image = vec![0; BLOCKS * BLOCK_BYTES];
+    for zone in 1..BLOCKS {
+        for position in 0..BLOCKS - 1 {
+            let at = || State::restored(1, 1, BLOCKS, zone, position, false, 0);
+            let reply = if position + 1 > BLOCKS - zone { Reply::Warned } else { Reply::Plain };
+            assert_eq!((at().mark(KEY, &mut image).reply, at().record(KEY, b"x", &mut image).reply), (reply, reply));
+            assert_eq!(at().close(KEY, &mut image).reply, Reply::Plain);
+        }
+    }
+}
+
 #[test]
 fn no_more_marks_than_blocks() {
     let mut image = vec![0; BLOCKS * BLOCK_BYTES];

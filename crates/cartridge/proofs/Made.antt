@@ -7,7 +7,6 @@ use mathlib.Core.List.{List, [], _∷_, _++_, append-nil, append-assoc}
 use Prim.Native.Nat.{ℕ, zero, suc, _+_, _-_, _*_, _≤_, _<_}
 use native.Mathlib.Nat.{zero-add, add-zero, add-suc, suc-add}
 use native.Mathlib.Omega.{arith}
-use lib.Dec.{ltb}
 use lib.ListN.{length, drop, replicate, length-replicate, length-take, length-drop}
 use lib.Seq.{length-take-le}
 use Rattle.laws.specs.Choose.{pick, firstOf}
@@ -20,15 +19,16 @@ use Rattle.block.proofs.ImageSize.{image-sized}
 use Rattle.block.proofs.ImageLaws.{Stands, AllLawful, length-lay, lay-else, lay-stands, block-zeros}
 use Rattle.block.proofs.RoundTrip.{zeros-shut}
 use Rattle.writer.specs.declared.WriterState.{WriterState}
-use Rattle.writer.specs.declared.Reply.the-variants.{Plain, Warned}
+use Rattle.writer.specs.declared.Reply.the-variants.{Plain}
 use Rattle.writer.specs.Items.{Item, rec, fmark, blocksFor, size, pieces, following, recorded, blocks, layout, sizes, fileMarks, fileMarksIn}
-use Rattle.writer.specs.Writing.{Done, moved, warns, judged, taken, ended, started, refusedState, zoneOk, startNumber, itemNumber, closeNumber, start, write, close}
+use Rattle.writer.specs.Writing.{Done, moved, answerAt, judged, taken, ended, started, refusedState, zoneOk, startNumber, itemNumber, closeNumber, start, write, close}
 use Rattle.writer.proofs.Pieces.{length-blocks}
+use Rattle.writer.proofs.Warned.{either-answer}
 use Rattle.writer.proofs.Ready.{Sound, AllSound, sound, item-fits, close-ready, zoned}
 use Rattle.writer.proofs.InOrder.{length-layout, sizes-snoc, layout-snoc, marks-snoc, sound-snoc}
 use Rattle.cartridge.specs.Chain.{Call, item, closing, call, took, chain, accepted, ItemBytes, CallBytes, AllCallBytes}
 use Rattle.cartridge.specs.Chain.{Setup, Run, begun, left, items, shown, Proper}
-use Rattle.cartridge.proofs.Laid.{endMark, laid, Blank}
+use Rattle.cartridge.proofs.Laid.{laid, Blank}
 
 -- ---- an item's blocks are lawful
 lawful-pieces : (k p : ℕ) (s : List ℕ) → AllBytes s → 488 * k < length s → length s ≤ 488 * suc k → AllLawful p (following (pieces (suc k) s))
@@ -157,13 +157,8 @@ module _ (a : Setup) (s : WriterState) (img : List ℕ) (is : List Item) (m : Ma
       }
 
 -- ---- a call
-took-warns : (s : WriterState) (i : Item) (p : ℕ) → took (warns s i p) (item i) ≡ i ∷ []
-took-warns s (rec b) p = go (ltb (s .capacity - s .zone) p)
-  where
-    go : (t : Bool) → took (pick t Warned Plain) (item (rec b)) ≡ rec b ∷ []
-    go true = refl
-    go false = refl
-took-warns s fmark p = refl
+took-answered : (i : Item) (s : WriterState) (p : ℕ) → took (answerAt s p) (item i) ≡ i ∷ []
+took-answered i = either-answer (λ a. took a (item i) ≡ i ∷ []) refl refl
 
 module _ (a : Setup) (s : WriterState) (img : List ℕ) (is : List Item) (m : Made a s img is) where
   made-write : (i : Item) → ItemBytes i → let d = write s (a .key) img i in Made a (d .state) (d .image) (is ++ took (d .reply) (item i))
@@ -174,7 +169,7 @@ module _ (a : Setup) (s : WriterState) (img : List ℕ) (is : List Item) (m : Ma
           → let d = judged (taken s (a .key) img i) s img k in Made a (d .state) (d .image) (is ++ took (d .reply) (item i))
       go zero e =
           let f = item-fits s (a .key) img i e in
-          rw (took-warns s i (s .position + size i))
+          rw (took-answered i s (s .position + size i))
           (made-item a s img is m (f .ready .is-open) i (sound i (f .length-ok)) b (let h = f .room-ok in omega arith))
       go (suc k) e = rw append-nil m
 

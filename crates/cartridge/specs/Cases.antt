@@ -9,7 +9,7 @@ use Rattle.pi.specs.Permutation.{stateBy, shift, mix}
 use Rattle.sponge.specs.Blink.{padClose}
 use Rattle.writer.specs.declared.Reply.{Reply}
 use Rattle.writer.specs.declared.Reply.the-variants.{Plain, Warned, Refused}
-use Rattle.writer.specs.Items.{rec, blocksFor}
+use Rattle.writer.specs.Items.{Item, rec, fmark, blocksFor}
 use Rattle.writer.specs.Writing.{replyNumber, Done, write}
 
 pub record Case : Type 0 where
@@ -27,11 +27,14 @@ numbered = stateBy (λ k. k)
 unfoldable pub closedState : ℕ → ℕ → List ℕ
 closedState domain n = padClose domain n (replicate 64 0)
 
--- a record of n zeros at block p of a recording with c = 16 and e = 4
-unfoldable pub recordAt : ℕ → ℕ → Done
-recordAt p n =
-    write (record { id = 0; recording = 0; capacity = 16; zone = 4; position = p; closed = false; marks = 0 }) (replicate 24 0) (replicate 8192 0)
-    (rec (replicate n 0))
+-- a record of n zeros
+abbrev pub zeros : ℕ → Item
+zeros n = rec (replicate n 0)
+
+-- an item at block p of a recording with c = 16 and e = 4
+unfoldable pub itemAt : ℕ → Item → Done
+itemAt p i =
+    write (record { id = 0; recording = 0; capacity = 16; zone = 4; position = p; closed = false; marks = 0 }) (replicate 24 0) (replicate 8192 0) i
 
 -- 1 where the answer warns
 abbrev pub warning : Reply → ℕ
@@ -39,9 +42,9 @@ warning Plain = 0
 warning Warned = 1
 warning (Refused n) = 0
 
--- where a record of one block at p ends, and whether it is warned
-unfoldable pub endsAt : ℕ → List ℕ
-endsAt p = recordAt p 1 .state .position ∷ warning (recordAt p 1 .reply) ∷ []
+-- where an item at p ends, and whether it is warned
+unfoldable pub endsAt : ℕ → Item → List ℕ
+endsAt p i = itemAt p i .state .position ∷ warning (itemAt p i .reply) ∷ []
 
 unfoldable pub cases : List Case
 cases =
@@ -65,10 +68,14 @@ cases =
     record { found = getD (closedState 0x40 32) 32 0 ∷ []; said = 0x43 ∷ [] } ∷
     -- P10 lengths: their blocks
     record { found = blocksFor 488 ∷ blocksFor 489 ∷ blocksFor 31232 ∷ []; said = 1 ∷ 2 ∷ 64 ∷ [] } ∷
-    -- P11 position 12 is not warned
-    record { found = endsAt 11; said = 12 ∷ 0 ∷ [] } ∷
-    -- 13 is
-    record { found = endsAt 12; said = 13 ∷ 1 ∷ [] } ∷
+    -- P11 a record that ends at 12 is not warned
+    record { found = endsAt 11 (zeros 1); said = 12 ∷ 0 ∷ [] } ∷
+    -- one that ends at 13 is
+    record { found = endsAt 12 (zeros 1); said = 13 ∷ 1 ∷ [] } ∷
+    -- a mark that ends at 12 is not warned
+    record { found = endsAt 11 fmark; said = 12 ∷ 0 ∷ [] } ∷
+    -- one that ends at 13 is
+    record { found = endsAt 12 fmark; said = 13 ∷ 1 ∷ [] } ∷
     -- P12 two blocks at 13 are taken, at 14 refused 5
-    record { found = replyNumber (recordAt 13 489 .reply) ∷ replyNumber (recordAt 14 489 .reply) ∷ []; said = 0 ∷ 5 ∷ [] } ∷
+    record { found = replyNumber (itemAt 13 (zeros 489) .reply) ∷ replyNumber (itemAt 14 (zeros 489) .reply) ∷ []; said = 0 ∷ 5 ∷ [] } ∷
     []

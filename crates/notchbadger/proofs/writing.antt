@@ -2,4 +2,5 @@
 pub mod Crossing
 pub mod Chained
 pub mod FileNumber
+pub mod Warned
 pub mod Unique

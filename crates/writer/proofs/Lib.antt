@@ -3,6 +3,7 @@ pub mod Pieces
 pub mod Lent
 pub mod Ready
 pub mod InOrder
+pub mod Warned
 pub mod Judged
 pub mod Answers
 pub mod Rules

@@ -1,38 +1,31 @@
 -- The rules of writing, of the definitions `start`, `write` and `close`: what is taken, what a refusal leaves, how far the position moves,
--- when a record is warned, and that the state stays lawful.
+-- when an item is warned, and that the state stays lawful.
 -- Assumes nothing.
-use borrow.Author.Tests.{lt-ltb, le-ltb, ltb-true, le-leb, lt-leb, eq-eqb}
+use borrow.Author.Tests.{lt-ltb, le-ltb, le-leb, lt-leb, eq-eqb}
 use mathlib.Core.Path.{_≡_, refl, sym, ap, _∙_}
 use mathlib.Core.Bool.{Bool, true, false, _&&_}
 use mathlib.Core.List.{List}
 use Prim.Native.Nat.{ℕ, suc, _+_, _-_, _≤_, _<_}
 use native.Mathlib.Omega.{arith}
-use lib.Dec.{eqb, ltb}
-use Rattle.laws.specs.Choose.{pick, firstOf}
+use lib.Dec.{eqb}
+use Rattle.laws.specs.Choose.{firstOf}
 use Rattle.laws.proofs.ChooseLaws.{no-refusal}
 use Rattle.block.specs.Image.{capacityOf, imageOk}
 use Rattle.block.proofs.ImageSize.{image-sized}
 use Rattle.writer.specs.declared.WriterState.{WriterState}
 use Rattle.writer.specs.declared.Reply.the-variants.{Plain, Warned, Refused}
-use Rattle.writer.specs.Items.{Item, rec, fmark, size, fileMarks}
+use Rattle.writer.specs.Items.{Item, size, fileMarks}
 use Rattle.writer.specs.Writing.{replyNumber, zoneOk, placeOk, marksOk, lawful, lengthOk, room, startNumber, itemNumber, closeNumber}
-use Rattle.writer.specs.Writing.{Done, stay, judged, moved, warns, refusedState, started, taken, ended, start, write, close}
+use Rattle.writer.specs.Writing.{Done, stay, judged, moved, refusedState, started, taken, ended, start, write, close}
+use Rattle.writer.proofs.Warned.{warns-exactly, answer-0, answer-taken}
 use Rattle.writer.proofs.Judged.{judged-number, judged-says}
 use Rattle.writer.proofs.InOrder.{marks-fit}
 use Rattle.writer.proofs.Ready.{Ready, facts, StateLawful, lawfully, lawful-holds, call-asks, close-ready, item-asks, item-fits}
 
 -- ---- the number in the answer is that of the first cause, and 0 says that the call was taken
-warns-0 : (s : WriterState) (i : Item) (p : ℕ) → replyNumber (warns s i p) ≡ 0
-warns-0 s (rec b) p = either (ltb (s .capacity - s .zone) p)
-  where
-    either : (t : Bool) → replyNumber (pick t Warned Plain) ≡ 0
-    either true = refl
-    either false = refl
-warns-0 s fmark p = refl
-
 pub write-number : (s : WriterState) (key image : List ℕ) (i : Item) → replyNumber (write s key image i .reply) ≡ itemNumber s key image i
 unfolding write
-write-number s key image i = judged-number (taken s key image i) s image (warns-0 s i (s .position + size i)) (itemNumber s key image i)
+write-number s key image i = judged-number (taken s key image i) s image (answer-0 s (s .position + size i)) (itemNumber s key image i)
 
 pub close-number : (s : WriterState) (key image : List ℕ) → replyNumber (close s key image .reply) ≡ closeNumber s key image
 unfolding close
@@ -45,7 +38,7 @@ start-number id recording e image = judged-number (started id recording e image)
 -- the number that a call gives is the one in its answer
 pub write-says : (s : WriterState) (key image : List ℕ) (i : Item) → replyNumber (write s key image i .reply) ≡ write s key image i .number
 unfolding write
-write-says s key image i = judged-says (taken s key image i) s image (warns-0 s i (s .position + size i)) (itemNumber s key image i)
+write-says s key image i = judged-says (taken s key image i) s image (answer-0 s (s .position + size i)) (itemNumber s key image i)
 
 pub close-says : (s : WriterState) (key image : List ℕ) → replyNumber (close s key image .reply) ≡ close s key image .number
 unfolding close
@@ -53,7 +46,7 @@ close-says s key image = judged-says (ended s key image) s image refl (closeNumb
 
 pub start-says : (id recording e : ℕ) (image : List ℕ) → replyNumber (start id recording e image .reply) ≡ start id recording e image .number
 unfolding start
-start-says id recording e image = judged-says (started id recording e image) refusedState image refl (startNumber image e)
+start-says id recording e image = judged-says (started id recording e image) refusedState _ refl (startNumber image e)
 
 -- ---- what a call is, by its number
 pub write-when : (s : WriterState) (key image : List ℕ) (i : Item) (n : ℕ) → replyNumber (write s key image i .reply) ≡ n
@@ -73,18 +66,10 @@ start-when id recording e image n q = ap (judged (started id recording e image) 
 
 -- ---- taken exactly
 -- Refused is never said with the number 0, so that the number 0 is what taken means
-warns-taken : (s : WriterState) (i : Item) (p m : ℕ) → warns s i p ≡ Refused m → ⊥
-warns-taken s (rec b) p m e = either (ltb (s .capacity - s .zone) p) e
-  where
-    either : (t : Bool) → pick t Warned Plain ≡ Refused m → ⊥
-    either true e = let z : _≡_ {A = ℕ} 0 1 = cc in omega arith
-    either false e = let z : _≡_ {A = ℕ} 0 1 = cc in omega arith
-warns-taken s fmark p m e = let z : _≡_ {A = ℕ} 0 1 = cc in omega arith
-
 pub number-0-taken : (s : WriterState) (key image : List ℕ) (i : Item) (m : ℕ) → replyNumber (write s key image i .reply) ≡ 0
     → write s key image i .reply ≡ Refused m → ⊥
 number-0-taken s key image i m e r =
-    warns-taken s i (s .position + size i) m (sym (ap (λ (d : Done). d .reply) (write-when s key image i 0 e)) ∙ r)
+    answer-taken m s (s .position + size i) (sym (ap (λ (d : Done). d .reply) (write-when s key image i 0 e)) ∙ r)
 
 -- an item of k blocks at p of c: taken exactly if p + k ≤ c - 1, and else refused 5
 module _ (s : WriterState) (key image : List ℕ) (i : Item) (r : Ready s key image) (l : lengthOk i ≡ true) where
@@ -144,27 +129,14 @@ pub closing-moves-by-1 : (s : WriterState) (key image : List ℕ) → replyNumbe
     → close s key image .state ≡ moved s (s .position + 1) true (s .marks)
 closing-moves-by-1 s key image e = ap (λ (d : Done). d .state) (close-when s key image 0 e)
 
--- ---- warned exactly
-pub warned-says : (s : WriterState) (key image : List ℕ) (i : Item) → replyNumber (write s key image i .reply) ≡ 0
-    → write s key image i .reply ≡ warns s i (s .position + size i)
-warned-says s key image i e = ap (λ (d : Done). d .reply) (write-when s key image i 0 e)
-
-plain-or-warned : (t : Bool) → pick t Warned Plain ≡ Warned → t ≡ true
-plain-or-warned true e = refl
-plain-or-warned false e = let z : _≡_ {A = ℕ} 0 1 = cc in absurd (omega arith)
-
-pub warned-exactly : (s : WriterState) (key image : List ℕ) (b : List ℕ) → replyNumber (write s key image (rec b) .reply) ≡ 0
-    → (write s key image (rec b) .reply ≡ Warned → s .capacity - s .zone < s .position + size (rec b))
-    × (s .capacity - s .zone < s .position + size (rec b) → write s key image (rec b) .reply ≡ Warned)
-warned-exactly s key image b e =
-    let w = warned-says s key image (rec b) e in
-    let p = s .position + size (rec b) in (
-      λ r. ltb-true (s .capacity - s .zone) p (plain-or-warned (ltb (s .capacity - s .zone) p) (sym w ∙ r)),
-      λ h. w ∙ rw (lt-ltb (s .capacity - s .zone) p h),
-    )
-
-pub mark-plain : (s : WriterState) (key image : List ℕ) → replyNumber (write s key image fmark .reply) ≡ 0 → write s key image fmark .reply ≡ Plain
-mark-plain s key image e = warned-says s key image fmark e
+-- ---- warned exactly, be it a record or a mark; a closing never is
+pub warned-exactly : (s : WriterState) (key image : List ℕ) (i : Item) → replyNumber (write s key image i .reply) ≡ 0
+    → (write s key image i .reply ≡ Warned → s .capacity - s .zone < s .position + size i)
+    × (s .capacity - s .zone < s .position + size i → write s key image i .reply ≡ Warned)
+warned-exactly s key image i e =
+    let w = ap (λ (d : Done). d .reply) (write-when s key image i 0 e) in
+    let x = warns-exactly s i in
+    (λ r. x .0 (sym w ∙ r), λ h. w ∙ x .1 h)
 
 pub closing-plain : (s : WriterState) (key image : List ℕ) → replyNumber (close s key image .reply) ≡ 0 → close s key image .reply ≡ Plain
 closing-plain s key image e = ap (λ (d : Done). d .reply) (close-when s key image 0 e)

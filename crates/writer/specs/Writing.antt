@@ -81,10 +81,13 @@ abbrev pub moved : WriterState → ℕ → Bool → ℕ → WriterState
 moved s p shut n =
     record { id = s .id; recording = s .recording; capacity = s .capacity; zone = s .zone; position = p; closed = shut; marks = n }
 
--- an accepted record is warned exactly if the position after it is above c - e; a mark carries no warning
-abbrev pub warns : WriterState → Item → ℕ → Reply
-warns s (rec b) p = pick (ltb (s .capacity - s .zone) p) Warned Plain
-warns s fmark p = Plain
+-- what was written up to p is warned in the zone, above c - e
+abbrev pub answerAt : WriterState → ℕ → Reply
+answerAt s p = pick (ltb (s .capacity - s .zone) p) Warned Plain
+
+-- an accepted item, record or mark, is warned by the position after it
+abbrev pub warns : WriterState → Item → Reply
+warns s i = answerAt s (s .position + size i)
 
 -- the state of a refused start: lawful for no image
 abbrev pub refusedState : WriterState
@@ -103,7 +106,7 @@ abbrev pub taken : WriterState → List ℕ → List ℕ → Item → Done
 taken s key image i =
     record {
       state = moved s (s .position + size i) false (s .marks + fileMarks i);
-      reply = warns s i (s .position + size i);
+      reply = warns s i;
       number = 0;
       image = lay key (s .id) (s .recording) image (s .position) (blocks i);
     }
@@ -112,7 +115,7 @@ abbrev pub ended : WriterState → List ℕ → List ℕ → Done
 ended s key image =
     record {
       state = moved s (s .position + 1) true (s .marks);
-      reply = Plain;
+      reply = Plain;  -- a closing is never warned
       number = 0;
       image = lay key (s .id) (s .recording) image (s .position) (head eod ∷ []);
     }

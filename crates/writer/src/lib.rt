@@ -8,7 +8,7 @@ ghost use Rattle.block.specs.Format.{sealBlock};
 ghost use Rattle.block.specs.Image.{setBlock, lay};
 ghost use Rattle.block.specs.Calls.{contentFor, fitsKind};
 ghost use Rattle.writer.specs.Items.{rec, fmark, blocksFor, blocks, pieceAt};
-ghost use Rattle.writer.specs.Writing.{zoneOk, lawful, itemNumber, closeNumber, start, write, close, Did};
+ghost use Rattle.writer.specs.Writing.{zoneOk, lawful, itemNumber, closeNumber, answerAt, start, write, close, Did};
 use numbers::BLOCK_BYTES;
 use numbers::BLOCK_PAYLOAD;
 use numbers::CLOSED;
@@ -244,6 +244,17 @@ impl WriterState {
         }
     }
 
+    // The answer to a record or mark that was written, by the position behind it.
+    fn answer_at(self, p: usize) -> Reply
+        requires { ⌜ self .zone ≤ self .capacity ⌝ }
+        ensures { λ r. ⌜ r ≡ answerAt self p ⌝ }
+    {
+        if self.capacity - self.zone < p {
+            return Reply::Warned;
+        }
+        Reply::Plain
+    }
+
     // Writes a record behind what is there: 1, 2, 8, 6, 4, 5. Refused, the given state comes back and the image stays.
     pub fn record(self, key: &[u8], bytes: &[u8], image: &mut [u8]) -> Wrote
         ensures { λ r. ⌜ Did (write self (now (key .entry)) (now (image .entry)) (rec (now (bytes .entry)))) r
@@ -259,18 +270,10 @@ impl WriterState {
         let k = blocks_for(bytes.len());
         let p = self.position;
         lay_record(key, self.id, self.recording, p, bytes, k, image);
+        let reply = self.answer_at(p + k);
         let mut state = self;
         state.position = p + k;
-        if self.capacity - self.zone < p + k {
-            return Wrote {
-                state,
-                reply: Reply::Warned,
-            };
-        }
-        Wrote {
-            state,
-            reply: Reply::Plain,
-        }
+        Wrote { state, reply }
     }
 
     // Writes a file mark: 1, 2, 8, 6, 5.
@@ -292,12 +295,10 @@ impl WriterState {
             };
         }
         lay_empty(key, self.id, self.recording, p, block::Kind::Mark, image);
+        let reply = self.answer_at(p + 1);
         self.position = p + 1;
         self.marks = self.marks + 1;
-        Wrote {
-            state: self,
-            reply: Reply::Plain,
-        }
+        Wrote { state: self, reply }
     }
 
     // Writes end of data into the held block or before it: 1, 2, 8, 6.
@@ -317,7 +318,7 @@ impl WriterState {
         self.closed = true;
         Wrote {
             state: self,
-            reply: Reply::Plain,
+            reply: Reply::Plain, // nothing can follow: there is nothing to warn of
         }
     }
 }

@@ -2,16 +2,14 @@
 -- Assumes nothing.
 use borrow.Author.Needs.{needs}
 use borrow.Author.Tests.{lt-ltb, le-ltb}
-use mathlib.Core.Bool.{Bool}
-use mathlib.Core.Path.{refl, sym, ap, _∙_}
+use mathlib.Core.Path.{refl, sym, _∙_}
 use Prim.Native.Nat.{_+_, _≤_, _<_}
 use native.Mathlib.Omega.{arith}
 use Rattle.block.specs.Image.{lay}
-use Rattle.writer.specs.declared.Reply.the-variants.{Plain}
 use Rattle.writer.specs.Items.{fmark}
-use Rattle.writer.specs.Writing.{room, moved}
+use Rattle.writer.specs.Writing.{room}
 use Rattle.writer.proofs.Ready.{Ready, facts, close-ready, item-refused, item-asks}
-use Rattle.writer.proofs.Answers.{write-refused, write-taken}
+use Rattle.writer.proofs.Answers.{write-refused, item-taken}
 use Rattle.writer.proofs.WriterState.mark.Statement.{statement}
 use Rattle.writer.proofs.WriterState.mark.Tie as tie
 
@@ -46,11 +44,17 @@ returns-2 c =
 lay-empty-requires : tie.Need-lay-empty-requires
 lay-empty-requires c κs = let r = is-ready (c .before .before .before) in let f = facts r in (r .asked .key24, omega arith, omega arith, refl)
 
+add-answer-at : tie.Need-add-answer-at
+add-answer-at c = search needs
+
+answer-at-requires : tie.Need-answer-at-requires
+answer-at-requires c κs = let f = facts (is-ready (c .before .before .before .before .before .before)) in omega arith
+
 add-self : tie.Need-add-self
 add-self c = search needs
 
 add-self-2 : tie.Need-add-self-2
-add-self-2 c = let f = facts (is-ready (c .before .before .before .before .before .before .before)) in omega arith
+add-self-2 c = let f = facts (is-ready (c .before .before .before .before .before .before .before .before)) in omega arith
 
 same-length-3 : tie.Need-same-length-3
 same-length-3 c = search needs
@@ -58,16 +62,11 @@ same-length-3 c = search needs
 returns-3 : tie.Need-returns-3
 unfolding room lay
 returns-3 c =
-    let t = c .before .before .before .before .before in
+    let t = c .before .before .before .before .before .before in
     let r = is-ready (t .before .before) in
     let s = t .before .before .before .before .before .before .before .args .self in
     let h : s .position + 1 < s .capacity = omega arith in
-    write-taken _ _ _ fmark (item-asks r fmark ∙ simp (lt-ltb _ _ h))
-    (record {
-      says = ap (λ (b : Bool). record { state = moved s (s .position + 1) b (s .marks + 1); reply = Plain }) (r .is-open);
-      number = refl;
-      leaves = c .before .before .before .lay-empty .ensures;
-    })
+    item-taken _ _ _ fmark (item-asks r fmark ∙ simp (lt-ltb _ _ h)) refl refl (c .before .answer-at .ensures) (c .before .before .before .before .lay-empty .ensures)
 
 pub mark-spec : {M : Type 1} → statement M
 mark-spec =
@@ -80,6 +79,8 @@ mark-spec =
     same-length-2
     returns-2
     lay-empty-requires
+    add-answer-at
+    answer-at-requires
     add-self
     add-self-2
     same-length-3

@@ -1,12 +1,10 @@
--- `writer::WriterState::record` meets its contract: refused, or its blocks laid, warned or not.
+-- `writer::WriterState::record` meets its contract: refused, or its blocks laid.
 -- Assumes nothing.
-use borrow.Author.Tests.{lt-ltb, le-ltb}
-use mathlib.Core.Path.{refl, sym, _∙_}
-use Prim.Native.Nat.{_+_, _-_, _≤_, _<_}
+use mathlib.Core.Path.{sym, _∙_}
 use native.Mathlib.Omega.{arith}
 use Rattle.writer.specs.Items.{rec}
 use Rattle.writer.proofs.Ready.{Fits, facts, item-fits, sound}
-use Rattle.writer.proofs.Answers.{write-refused, write-taken, record-said}
+use Rattle.writer.proofs.Answers.{write-refused, item-taken}
 use borrow.Author.Needs.{needs}
 use Rattle.writer.proofs.WriterState.record.Statement.{statement}
 use Rattle.writer.proofs.WriterState.record.Tie as tie
@@ -34,24 +32,19 @@ lay-record-requires c κs =
     let b = c .before .blocks-for .ensures in
     omega arith
 
-add-state : tie.Need-add-state
-add-state c =
-    let e = c .before .before .before .before .before in
-    let t = fits e in
+add-answer-at : tie.Need-add-answer-at
+add-answer-at c =
+    let t = fits (c .before .before .before .before .before) in
     let f = facts (t .ready) in
     let b = c .before .before .before .before .blocks-for .ensures in
     omega arith
 
-sub-if2 : tie.Need-sub-if2
-sub-if2 c =
-    let e = c .before .before .before .before .before .before in
-    let f = facts (fits e .ready) in
-    omega arith
+answer-at-requires : tie.Need-answer-at-requires
+answer-at-requires c κs = let f = facts (fits (c .before .before .before .before .before) .ready) in omega arith
 
-add-if2 : tie.Need-add-if2
-add-if2 c =
-    let e = c .before .before .before .before .before .before in
-    let t = fits e in
+add-state : tie.Need-add-state
+add-state c =
+    let t = fits (c .before .before .before .before .before .before) in
     let f = facts (t .ready) in
     let b = c .before .before .before .before .before .blocks-for .ensures in
     omega arith
@@ -61,32 +54,10 @@ same-length-2 c = search needs
 
 returns-2 : tie.Need-returns-2
 returns-2 c =
-    let o = c .before .before .before .before in
-    let e = o .before .before .before in
-    let a = e .before .before .before .before .before .before .args in
-    let h : a .self .capacity - a .self .zone < a .self .position + o .before .before .blocks-for .result = omega arith in
-    write-taken _ _ _ (rec _) (sym (e .before .record-number .ensures) ∙ e .if1 .left)
-    (record {
-      says = record-said (a .self) (a .bytes .now) _ (o .before .before .blocks-for .ensures .0) (fits e .ready .is-open) (lt-ltb _ _ h);
-      number = refl;
-      leaves = o .lay-record .ensures;
-    })
-
-same-length-3 : tie.Need-same-length-3
-same-length-3 c = search needs
-
-returns-3 : tie.Need-returns-3
-returns-3 c =
-    let o = c .before .before .before .before in
-    let e = o .before .before .before in
-    let a = e .before .before .before .before .before .before .args in
-    let h : a .self .position + o .before .before .blocks-for .result ≤ a .self .capacity - a .self .zone = omega arith in
-    write-taken _ _ _ (rec _) (sym (e .before .record-number .ensures) ∙ e .if1 .left)
-    (record {
-      says = record-said (a .self) (a .bytes .now) _ (o .before .before .blocks-for .ensures .0) (fits e .ready .is-open) (le-ltb _ _ h);
-      number = refl;
-      leaves = o .lay-record .ensures;
-    })
+    let l = c .before .before .before in
+    let e = l .before .before .before in
+    item-taken _ _ _ (rec _) (sym (e .before .record-number .ensures) ∙ e .if1 .left) (l .before .before .blocks-for .ensures .0) (omega arith)
+    (c .answer-at .ensures) (l .lay-record .ensures)
 
 pub record-spec : {M : Type 1} → statement M
 record-spec =
@@ -97,10 +68,8 @@ record-spec =
     returns
     blocks-for-requires
     lay-record-requires
+    add-answer-at
+    answer-at-requires
     add-state
-    sub-if2
-    add-if2
     same-length-2
-    returns-2
-    same-length-3
-    returns-3)
+    returns-2)
