@@ -206,7 +206,7 @@ uint8_t nb_open(const uint8_t *key, size_t key_len,
  * is what nb_report counts as marks in the image as it stands. */
 
 /* nb_wrote's reply. What is warned was written: its number is 0. Records and
- * file marks are warned, a start and a closing never are. */
+ * file marks are warned, a closing never is. */
 #define NB_PLAIN 0
 #define NB_WARNED 1
 #define NB_REFUSED 2
