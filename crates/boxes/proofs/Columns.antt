@@ -1,23 +1,23 @@
 -- A column: its eight planes through the circuits are its bytes through the table; what a load reads, and what a store leaves.
 -- Assumes nothing.
-use mathlib.Core.Path.{_≡_, sym, ap₂, _∙_}
+use mathlib.Core.Path.{_≡_, ap₂, _∙_}
 use mathlib.Core.Bool.{Bool}
 use mathlib.Core.List.{List}
-use Prim.Native.Nat.{ℕ, _+_, _-_, _*_, _/_, _%_, _<_}
+use Prim.Native.Nat.{ℕ, _+_, _-_, _*_, _%_, _<_}
 use native.Mathlib.Omega.{arith}
-use lib.Dec.{lit<, eqb, eqb→eq}
+use lib.Dec.{T, lit<, eqb, eqb→eq}
 use lib.ListN.{length, getD, set, length-set}
 use lib.Seq.{getD-set-same, getD-set-other}
 use Rattle.laws.specs.Xor.{xor}
-use Rattle.laws.proofs.TableLaws.{at}
 use Rattle.pi.specs.Table.{table, backTable, S, S⁻, E, E⁻, R}
 use Rattle.planes.specs.Planes.{bit, byteBy}
-use Rattle.boxes.specs.declared.gates.Four.{Four}
-use Rattle.boxes.specs.Boxes.{half, forth, back, cell, quarter, turnedBy, stored}
-use Rattle.planes.proofs.BitLaws.{bit-low}
-use Rattle.boxes.proofs.Bits.{four, four-low, bit-turned}
+use Rattle.planes.proofs.Tests.{upto, tested₂}
+use Rattle.gates.specs.Gates.{half}
+use Rattle.gates.specs.declared.Four.{Four}
+use Rattle.boxes.specs.Boxes.{forth, back, cell, quarter, turnedBy, stored}
+use Rattle.boxes.proofs.Bits.{bit-turned}
 
--- ---- the miniboxes together, by one test over all bytes: halves h and l go in, and two come out
+-- ---- the miniboxes together, by one test over all halves: h and l go in, and two come out
 unfoldable hiIn : ℕ → ℕ
 hiIn h = xor (getD E (xor h 6) 0) 0xF
 
@@ -39,23 +39,9 @@ highOf h l = hiOut (hiIn h) (mid (hiIn h) (loIn l))
 lowOf : ℕ → ℕ → ℕ
 lowOf h l = loOut (loIn l) (mid (hiIn h) (loIn l))
 
-goes-forth : ℕ → ℕ → Bool
-goes-forth k x = eqb (lowOf (k / 16) (k % 16) + 16 * highOf (k / 16) (k % 16)) (forth k)
-
-goes-back : ℕ → ℕ → Bool
-goes-back k x = eqb (highOf (k % 16) (k / 16) + 16 * lowOf (k % 16) (k / 16)) (back k)
-
-forth-all : (k : ℕ) → k < 256 → lowOf (k / 16) (k % 16) + 16 * highOf (k / 16) (k % 16) ≡ forth k
-unfolding goes-forth highOf lowOf hiIn loIn mid hiOut loOut forth S table E E⁻ R xor
-forth-all k h = eqb→eq _ _ (at goes-forth table tt k h)
-
-back-all : (k : ℕ) → k < 256 → highOf (k % 16) (k / 16) + 16 * lowOf (k % 16) (k / 16) ≡ back k
-unfolding goes-back highOf lowOf hiIn loIn mid hiOut loOut back S⁻ table backTable E E⁻ R xor
-back-all k h = eqb→eq _ _ (at goes-back table tt k h)
-
-pub half-low : (x : Four) (n : ℕ) → half x n < 16
-unfolding half four
-half-low x n = four-low _ _ _ _ (bit-low n (x .p0)) (bit-low n (x .p1)) (bit-low n (x .p2)) (bit-low n (x .p3))
+-- the halves that come out, put together, are B of those that go in
+fits : (ℕ → ℕ → ℕ) → (ℕ → ℕ) → ℕ → ℕ → Bool
+fits put B h l = eqb (put (highOf h l) (lowOf h l)) (B (put h l))
 
 module _ (h l u v s w t o p q : ℕ) (bh : h < 16) (bl : l < 16)
     (eu : u ≡ xor (getD E (xor h 6) 0) 0xF) (ev : v ≡ xor (getD E⁻ (xor l 2) 0) 0xD) (es : s ≡ xor u v) (ew : w ≡ xor (getD R (xor s 2) 0) 0xB)
@@ -68,17 +54,17 @@ module _ (h l u v s w t o p q : ℕ) (bh : h < 16) (bl : l < 16)
   unfolding lowOf hiIn loIn mid loOut
   is-low = cc
 
+  passes : (put : ℕ → ℕ → ℕ) (B : ℕ → ℕ) → T (upto (λ i. upto (fits put B i) 16) 16) → put p q ≡ B (put h l)
+  unfolding fits
+  passes put B t = ap₂ put is-high is-low ∙ eqb→eq _ _ (tested₂ (fits put B) 16 16 t h l bh bl)
+
   pub goes : q + 16 * p ≡ forth (l + 16 * h)
-  goes =
-      let d : (l + 16 * h) / 16 ≡ h = omega arith in
-      let m : (l + 16 * h) % 16 ≡ l = omega arith in
-      ap₂ (λ (x y : ℕ). y + 16 * x) is-high is-low ∙ ap₂ (λ (x y : ℕ). lowOf x y + 16 * highOf x y) (sym d) (sym m) ∙ forth-all (l + 16 * h) (omega arith)
+  unfolding fits highOf lowOf hiIn loIn mid hiOut loOut forth S table E E⁻ R xor
+  goes = passes (λ x y. y + 16 * x) forth tt
 
   pub comes : p + 16 * q ≡ back (h + 16 * l)
-  comes =
-      let d : (h + 16 * l) / 16 ≡ l = omega arith in
-      let m : (h + 16 * l) % 16 ≡ h = omega arith in
-      ap₂ (λ (x y : ℕ). x + 16 * y) is-high is-low ∙ ap₂ (λ (x y : ℕ). highOf x y + 16 * lowOf x y) (sym m) (sym d) ∙ back-all (h + 16 * l) (omega arith)
+  unfolding fits highOf lowOf hiIn loIn mid hiOut loOut back S⁻ backTable E E⁻ R xor
+  comes = passes (λ x y. x + 16 * y) back tt
 
 -- ---- a load
 pub read : (s : List ℕ) (at n : ℕ) (x : Four)

@@ -1,5 +1,5 @@
--- Laws of the circuits, the columns and the whole state.
+-- Laws of the columns and of the whole state; each public call promises one state.
 pub mod Bits
-pub mod Circuits
 pub mod Columns
 pub mod States
+pub mod Unique

@@ -4,7 +4,8 @@ use mathlib.Core.Path.{_≡_, sym, ap, ap₂, subst, _∙_}
 use mathlib.Core.Bool.{Bool}
 use mathlib.Core.List.{List}
 use mathlib.Core.Logic.{⊎-elim}
-use Prim.Native.Nat.{ℕ, _+_, _-_, _*_, _/_, _%_, _<_}
+use Prim.Native.Nat.{ℕ, _+_, _-_, _*_, _/_, _%_, _<_, _≤_}
+use native.Mathlib.Nat.{not-suc-le-zero}
 use native.Mathlib.Omega.{arith}
 use lib.Dec.{eqb, eqb→eq}
 use lib.ListN.{length, getD}
@@ -17,13 +18,21 @@ use Rattle.pi.specs.Permutation.{stateBy, substitute, substitute⁻, source, ta
 use Rattle.pi.proofs.Build.{state-at, state-same}
 use Rattle.pi.proofs.StateLaws.{places}
 use Rattle.planes.specs.Planes.{flipped, plus}
+use Rattle.gates.specs.Gates.{Same16, half}
 use Rattle.boxes.specs.declared.Both.{Both}
-use Rattle.boxes.specs.Boxes.{Same16, half, byte, forth, back, cell, quarter, stored}
+use Rattle.boxes.specs.Boxes.{byte, forth, back, cell, quarter, stored}
 use Rattle.boxes.proofs.Columns.{stored-length, stored-on, stored-apart, cell-is}
 
 -- the first j columns of q are those of s, each byte by B and each column turned by its count
 abbrev pub Done : (ℕ → ℕ) → (ℕ → ℕ) → List ℕ → List ℕ → ℕ → Type 0
 Done B turn s q j = (g : ℕ) → g < j → (i : ℕ) → i < 8 → cell q g i ≡ B (cell s g ((i + 8 - turn g) % 8))
+
+-- what the loop keeps
+abbrev pub SoFar : (ℕ → ℕ) → (ℕ → ℕ) → List ℕ → List ℕ → ℕ → Type 0
+SoFar B turn s q j = (j ≤ 8) × (length q ≡ 64) × Done B turn s q j
+
+pub begun : (B turn : ℕ → ℕ) (s q : List ℕ) → length q ≡ 64 → SoFar B turn s q 0
+begun B turn s q l = (omega arith, l, λ g h. absurd (not-suc-le-zero h))
 
 -- both stores of a column
 abbrev put : List ℕ → ℕ → ℕ → Both → List ℕ
@@ -69,13 +78,13 @@ module _ (B turn : ℕ → ℕ) (s q : List ℕ) (j k : ℕ) (x y : Both) where
       (lt-or-ge g j)
 
   -- as the loop finds it, store by store
-  pub next : (q₁ q₂ : List ℕ) → length q ≡ 64 → j < 8 → k < 8 → k ≡ turn j
+  pub next : (q₁ q₂ : List ℕ) → j < 8 → k < 8 → k ≡ turn j
       → Same16 (half (x .low)) (λ n. quarter s j (n % 8)) → Same16 (half (x .high)) (λ n. quarter s (j + 32) (n % 8))
       → Same16 (byte y) (λ n. B (byte x n)) → q₁ ≡ stored q j k (y .low) → q₂ ≡ stored q₁ (j + 32) k (y .high)
-      → Done B turn s q j → (length q₂ ≡ 64) × Done B turn s q₂ (j + 1)
-  next q₁ q₂ l hj hk ek el eh ey e₁ e₂ d =
+      → SoFar B turn s q j → SoFar B turn s q₂ (j + 1)
+  next q₁ q₂ hj hk ek el eh ey e₁ e₂ d =
       let e : q₂ ≡ put q j k y = e₂ ∙ ap (λ (p : List ℕ). stored p (j + 32) k (y .high)) e₁ in
-      (ap length e ∙ put-length q j k y ∙ l, subst (λ (p : List ℕ). Done B turn s p (j + 1)) (sym e) (one-more l hj hk ek el eh ey d))
+      (omega arith, ap length e ∙ put-length q j k y ∙ d .1, subst (λ (p : List ℕ). Done B turn s p (j + 1)) (sym e) (one-more (d .1) hj hk ek el eh ey (d .2)))
 
 -- ---- all eight: each byte of the state by its rule
 flipped-at : (s : List ℕ) (k : ℕ) → k < 64 → getD (flipped s) k 0 ≡ cell s (k % 8) (k / 8)
@@ -119,16 +128,27 @@ source-below : (k : ℕ) → source k < 64
 unfolding source
 source-below k = omega arith
 
-pub all-forth : (s q : List ℕ) → Done forth (λ j. j) s q 8 → flipped q ≡ shift (plus 0xD5 (substitute (plus 0x62 (flipped s))))
+all-forth : (s q : List ℕ) → Done forth (λ j. j) s q 8 → flipped q ≡ shift (plus 0xD5 (substitute (plus 0x62 (flipped s))))
 unfolding flipped shift substitute forth cell
 all-forth s q d =
     state-same _ _
     (λ k h. d (k % 8) (omega arith) (k / 8) (omega arith)
     ∙ sym (around S 0x62 0xD5 (flipped s) (source k) (source-below k) ∙ ap forth (from-source s k h)))
 
-pub all-back : (s q : List ℕ) → Done back (λ j. (8 - j) % 8) s q 8 → flipped q ≡ plus 0x5D (substitute⁻ (plus 0x26 (shift⁻ (flipped s))))
+all-back : (s q : List ℕ) → Done back (λ j. (8 - j) % 8) s q 8 → flipped q ≡ plus 0x5D (substitute⁻ (plus 0x26 (shift⁻ (flipped s))))
 unfolding flipped shift⁻ substitute⁻ back cell plus
 all-back s q d =
     state-same _ _
     (λ k h. d (k % 8) (omega arith) (k / 8) (omega arith)
     ∙ sym (sym (state-at _ k h) ∙ around S⁻ 0x26 0x5D (shift⁻ (flipped s)) k h ∙ ap back (state-at _ k h ∙ from-target s k h)))
+
+-- as the loop leaves it
+module _ (s q : List ℕ) (j : ℕ) (e : j ≡ 8) where
+  done : (B turn : ℕ → ℕ) → SoFar B turn s q j → Done B turn s q 8
+  done B turn d = subst (Done B turn s q) e (d .2)
+
+  pub done-forth : SoFar forth (λ j. j) s q j → (length q ≡ 64) × (flipped q ≡ shift (plus 0xD5 (substitute (plus 0x62 (flipped s)))))
+  done-forth d = (d .1, all-forth s q (done forth (λ j. j) d))
+
+  pub done-back : SoFar back (λ j. (8 - j) % 8) s q j → (length q ≡ 64) × (flipped q ≡ plus 0x5D (substitute⁻ (plus 0x26 (shift⁻ (flipped s)))))
+  done-back d = (d .1, all-back s q (done back (λ j. (8 - j) % 8) d))

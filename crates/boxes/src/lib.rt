@@ -4,14 +4,14 @@ ghost use Prim.Native.Nat.{_%_, _<_};
 ghost use lib.ListN.{length};
 ghost use Rattle.pi.specs.Permutation.{substitute, shift, substitute⁻, shift⁻};
 ghost use Rattle.planes.specs.Planes.{bit, flipped, plus};
-ghost use Rattle.boxes.specs.Boxes.{Same16, half, byte, quarter, turnedBy, stored, forth, back};
-
-mod gates;
+ghost use Rattle.gates.specs.Gates.{Same16, half};
+ghost use Rattle.boxes.specs.Boxes.{byte, quarter, turnedBy, stored, forth, back};
+use gates::Four;
 
 // The eight planes of a column, each byte twice in its word.
 struct Both {
-    low: gates::Four,
-    high: gates::Four,
+    low: Four,
+    high: Four,
 }
 
 fn wide(x: u8) -> u16
@@ -42,11 +42,11 @@ fn turned(x: u16, k: u16) -> u8
 }
 
 // Four planes of a column, from `at` on.
-fn loaded(s: &[u8; 64], at: usize) -> gates::Four
+fn loaded(s: &[u8; 64], at: usize) -> Four
     requires { ⌜ at < 40 ⌝ }
     ensures { λ r. ⌜ Same16 (half r) (λ n. quarter (now (s .entry)) at (n % 8)) ⌝ }
 {
-    gates::Four {
+    Four {
         p0: twice(s[at]),
         p1: twice(s[at + 8]),
         p2: twice(s[at + 16]),
@@ -55,7 +55,7 @@ fn loaded(s: &[u8; 64], at: usize) -> gates::Four
 }
 
 // And back to their places, each turned left by k.
-fn store(q: &mut [u8; 64], at: usize, x: gates::Four, k: u16)
+fn store(q: &mut [u8; 64], at: usize, x: Four, k: u16)
     requires { ⌜ (at < 40) × (k < 8) ⌝ }
     ensures { λ _. ⌜ now (q .exit) ≡ stored (now (q .entry)) at k x ⌝ }
 {

@@ -1,96 +1,33 @@
 -- `boxes::substitute_back` meets its contract. The invariant of its loop: the first j columns are done.
 -- Assumes nothing.
-use mathlib.Core.Path.{_≡_, refl, subst}
-use Prim.Native.Nat.{_-_, _%_, _≤_}
+use mathlib.Core.Path.{refl}
+use Prim.Native.Nat.{_-_, _%_}
 use native.Mathlib.Omega.{arith}
-use native.Mathlib.Nat.{not-suc-le-zero}
-use borrow.Author.Needs.{needs}
-use lib.ListN.{length}
 use Rattle.boxes.specs.Boxes.{back}
-use Rattle.boxes.proofs.States.{Done, next, all-back}
+use Rattle.boxes.proofs.States.{SoFar, begun, next, done-back}
 use Rattle.boxes.proofs.substitute_back.Statement.{statement}
 use Rattle.boxes.proofs.substitute_back.Tie as tie
-use Rattle.boxes.proofs.substitute_back.Reads as reads
-use Rattle.boxes.proofs.substitute_back.Lts as lts
-use Rattle.boxes.proofs.back.Reads as back-reads
-use Rattle.boxes.proofs.loaded.Reads as loaded-reads
-use Rattle.boxes.proofs.store.Reads as store-reads
 
 abbrev Inv-loop : tie.InvT-loop
-Inv-loop s q t₀ j₀ t j = (j ≤ 8) × (length t ≡ 64) × Done back (λ g. (8 - g) % 8) s t j
+Inv-loop s q t₀ j₀ t j = SoFar back (λ g. (8 - g) % 8) s t j
 
 abbrev μ-loop : tie.MeasureT-loop
 μ-loop s q t₀ j₀ t j = 8 - j
-
-loop-holds : tie.Need-loop-holds Inv-loop μ-loop
-loop-holds c = (omega arith, refl, λ g h. absurd (not-suc-le-zero h))
-
-sub-k : tie.Need-sub-k Inv-loop μ-loop
-sub-k c = omega arith
-
-cast-k : tie.Need-cast-k Inv-loop μ-loop
-cast-k c = omega arith
-
-loaded-requires : tie.Need-loaded-requires Inv-loop μ-loop
-loaded-requires c κs = omega arith
-
-add-loaded : tie.Need-add-loaded Inv-loop μ-loop
-add-loaded c = omega arith
-
-loaded-requires-2 : tie.Need-loaded-requires-2 Inv-loop μ-loop
-loaded-requires-2 c κs = omega arith
-
-back-requires : tie.Need-back-requires Inv-loop μ-loop
-back-requires c κs = search needs
-
-store-requires : tie.Need-store-requires Inv-loop μ-loop
-store-requires c κs = (omega arith, omega arith)
-
-add-store : tie.Need-add-store Inv-loop μ-loop
-add-store c = omega arith
-
-store-requires-2 : tie.Need-store-requires-2 Inv-loop μ-loop
-store-requires-2 c κs = (omega arith, omega arith)
-
-add-j : tie.Need-add-j Inv-loop μ-loop
-add-j c = omega arith
-
-loop-less : tie.Need-loop-less Inv-loop μ-loop
-loop-less c = omega arith
 
 loop-again : tie.Need-loop-again Inv-loop μ-loop
 loop-again c =
     let at-back = c .before .before .before .before in
     let at = at-back .before .before .before .before in
-    let r =
-    next back (λ g. (8 - g) % 8) (at .before .args .s .now) (at .loop .t) (at .loop .j) _ _ _ _ _ (at .loop .inv .1) (omega arith) (omega arith) refl
+    next back (λ g. (8 - g) % 8) (at .before .args .s .now) (at .loop .t) (at .loop .j) _ _ _ _ _ (omega arith) (omega arith) refl
     (at-back .before .before .loaded .ensures) (at-back .before .loaded2 .ensures) (at-back .back .ensures)
-    (c .before .before .store .ensures) (c .store2 .ensures) (at .loop .inv .2) in
-    (omega arith, r .0, r .1)
+    (c .before .before .store .ensures) (c .store2 .ensures) (at .loop .inv)
 
 returns : tie.Need-returns Inv-loop μ-loop
-returns c =
-    let at = c .before .loop in
-    let e : at .j ≡ 8 = omega arith in
-    (at .inv .1, all-back _ (at .t) (subst (Done back (λ g. (8 - g) % 8) _ (at .t)) e (at .inv .2)))
+returns c = done-back _ _ _ (omega arith) (c .before .loop .inv)
 
 pub substitute-back-spec : {M : Type 1} → statement M
 substitute-back-spec =
     tie.close
-    (tie.spec
-    Inv-loop
-    μ-loop
-    loop-holds
-    sub-k
-    cast-k
-    loaded-requires
-    add-loaded
-    loaded-requires-2
-    back-requires
-    store-requires
-    add-store
-    store-requires-2
-    add-j
-    loop-less
-    loop-again
-    returns)
+    (tie.spec Inv-loop μ-loop (λ c. begun back (λ g. (8 - g) % 8) _ _ refl) (λ c. omega arith) (λ c. omega arith) (λ c κs. omega arith) (λ c. omega arith)
+    (λ c κs. omega arith) (λ c κs. tt) (λ c κs. (omega arith, omega arith)) (λ c. omega arith) (λ c κs. (omega arith, omega arith))
+    (λ c. omega arith) (λ c. omega arith) loop-again returns)

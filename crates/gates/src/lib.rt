@@ -1,9 +1,12 @@
 // The miniboxes on planes of bits, without a NOT: a box is taken as x to B(x + a) + B(a), which sends 0 to 0.
 // With a byte a of 62 these translations fit: S(62) = D5, and 03 times D5 is 62 again, so that a state whose
 // bytes all are the true ones plus 62 stays so through substitute, shift, mix and the constants.
+ghost use mathlib.Core.Path.{_≡_};
+ghost use Prim.Native.Nat.{_%_};
+ghost use lib.ListN.{getD};
 ghost use Rattle.laws.specs.Xor.{xor};
 ghost use Rattle.pi.specs.Table.{E, E⁻, R};
-ghost use Rattle.boxes.specs.Boxes.{Same16, half, Minibox};
+ghost use Rattle.gates.specs.Gates.{Same16, half, Minibox};
 
 pub struct Four {
     pub p0: u16,
@@ -176,4 +179,47 @@ pub fn low_out(x: Four) -> Four
         p2: t13,
         p3: t10,
     }
+}
+
+// ---- A minibox of one half byte, without a lookup.
+// Bit b of x to place 0 of word b; what stands at the other places is left open.
+fn spread(x: u8) -> Four
+    ensures { λ r. ⌜ half r 0 ≡ x % 16 ⌝ }
+{
+    let w = x as u16;
+    Four {
+        p0: w,
+        p1: w >> 1,
+        p2: w >> 2,
+        p3: w >> 3,
+    }
+}
+
+// The bits at place 0 of the four words.
+fn gathered(x: Four) -> u8
+    ensures { λ r. ⌜ r ≡ half x 0 ⌝ }
+{
+    let w = (x.p0 & 1) | ((x.p1 & 1) << 1) | ((x.p2 & 1) << 2) | ((x.p3 & 1) << 3);
+    (w % 256) as u8
+}
+
+// E of the low half of x.
+pub fn box_e(x: u8) -> u8
+    ensures { λ r. ⌜ r ≡ getD E (x % 16) 0 ⌝ }
+{
+    gathered(high_in(spread(x ^ 6))) ^ 0xF
+}
+
+// E' of the low half of x.
+pub fn box_e_back(x: u8) -> u8
+    ensures { λ r. ⌜ r ≡ getD E⁻ (x % 16) 0 ⌝ }
+{
+    gathered(low_in(spread(x ^ 2))) ^ 0xD
+}
+
+// R of the low half of x.
+pub fn box_r(x: u8) -> u8
+    ensures { λ r. ⌜ r ≡ getD R (x % 16) 0 ⌝ }
+{
+    gathered(between(spread(x ^ 2))) ^ 0xB
 }

@@ -1,0 +1,2 @@
+-- What the miniboxes on words of bits are.
+pub mod Gates
