@@ -54,14 +54,15 @@ pub bytesOf-full : (p : Planes) → Full (bytesOf p)
 unfolding bytesOf
 bytesOf-full p = state-full _ (λ k. mod-lt (word p (k / 8) / 2 ^ (8 * (k % 8))) (lit< tt))
 
-pub bytesOf-bit : (p : Planes) (b i j : ℕ) → b < 8 → i < 8 → j < 8 → bit b (getD (bytesOf p) (8 * i + j) 0) ≡ bit (b + 8 * j) (word p i)
+pub bytesOf-at : (p : Planes) (i j : ℕ) → i < 8 → j < 8 → getD (bytesOf p) (8 * i + j) 0 ≡ word p i / 2 ^ (8 * j) % 256
 unfolding bytesOf
-bytesOf-bit p b i j hb hi hj =
+bytesOf-at p i j hi hj =
     let e₁ : (8 * i + j) / 8 ≡ i = omega arith in
     let e₂ : (8 * i + j) % 8 ≡ j = omega arith in
-    ap (bit b) (state-at (λ k. word p (k / 8) / 2 ^ (8 * (k % 8)) % 256) (8 * i + j) (omega arith) ∙ ap₂ (λ (m n : ℕ). word p m / 2 ^ (8 * n) % 256) e₁ e₂)
-    ∙ bit-mod b 8 (word p i / 2 ^ (8 * j)) hb
-    ∙ bit-shr b (8 * j) (word p i)
+    state-at (λ k. word p (k / 8) / 2 ^ (8 * (k % 8)) % 256) (8 * i + j) (omega arith) ∙ ap₂ (λ (m n : ℕ). word p m / 2 ^ (8 * n) % 256) e₁ e₂
+
+pub bytesOf-bit : (p : Planes) (b i j : ℕ) → b < 8 → i < 8 → j < 8 → bit b (getD (bytesOf p) (8 * i + j) 0) ≡ bit (b + 8 * j) (word p i)
+bytesOf-bit p b i j hb hi hj = ap (bit b) (bytesOf-at p i j hi hj) ∙ bit-mod b 8 (word p i / 2 ^ (8 * j)) hb ∙ bit-shr b (8 * j) (word p i)
 
 -- ---- sums
 pub added-full : (s t : List ℕ) → Full s → Full t → Full (added t s)
