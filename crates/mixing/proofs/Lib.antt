@@ -1,6 +1,6 @@
--- What turns and sums of planes are worth in bytes, the circulant of the way back, and the proof of each function below.
+-- What turns and sums of planes are worth in bytes, what a promise allows, and the proof of each function below.
 pub mod Bits
 pub mod Bytes
 pub mod Sums
 pub mod States
-pub mod EvenLaws
+pub mod Unique

@@ -1,3 +1,2 @@
--- What a turn of a word is, and the circulant of the way back.
+-- What a turn of a word is.
 pub mod Turns
-pub mod Even

@@ -1,10 +1,9 @@
 // The mix and its inverse on planes, by turns of words.
 ghost use mathlib.Core.Path.{_≡_};
 ghost use Prim.Native.Nat.{_<_};
-ghost use Rattle.pi.specs.Permutation.{mix, mixWith};
+ghost use Rattle.pi.specs.Permutation.{mix, mix⁻};
 ghost use Rattle.planes.specs.Planes.{flipped, bytesOf};
 ghost use Rattle.mixing.specs.Turns.{Turned};
-ghost use Rattle.mixing.specs.Even.{evenRow};
 use planes::Planes;
 
 // Turned left by k bits.
@@ -136,9 +135,9 @@ pub fn mixed(p: Planes) -> Planes
     }
 }
 
-// By CA + E8·T² + CF·T⁴ + 4A·T⁶: mix after this is mix back.
-pub fn evened(p: Planes) -> Planes
-    ensures { λ r. ⌜ flipped (bytesOf r) ≡ mixWith evenRow (flipped (bytesOf p)) ⌝ }
+// The mix undone: the inverse row's even places and its odd ones, each by turns of two columns; the odd ones are turned by one more.
+pub fn mixed_back(p: Planes) -> Planes
+    ensures { λ r. ⌜ flipped (bytesOf r) ≡ mix⁻ (flipped (bytesOf p)) ⌝ }
 {
     let p0 = p.p0;
     let p1 = p.p1;
@@ -172,42 +171,65 @@ pub fn evened(p: Planes) -> Planes
     let a7_2 = turn(p7, 16);
     let a7_4 = turn(p7, 32);
     let a7_6 = turn(p7, 48);
-    let t0 = p7 ^ a1_2;
-    let t1 = t0 ^ a0_4;
-    let t2 = t1 ^ a6_4;
-    let t3 = a7_4 ^ a6_6;
-    let t4 = a2_6 ^ a5_6;
-    let t5 = p0 ^ a7_6;
-    let t6 = t2 ^ p1;
-    let t7 = t3 ^ p2;
-    let t8 = t4 ^ a7_2;
-    let t9 = t7 ^ a2_2;
-    let t10 = a3_2 ^ a2_4;
-    let t11 = t5 ^ a0_6;
-    let t12 = t11 ^ a3_6;
-    let t13 = p3 ^ a3_4;
-    let t14 = p4 ^ a4_4;
-    let t15 = a1_6 ^ a4_6;
-    let t16 = p5 ^ a0_2;
-    let t17 = a6_2 ^ a5_4;
-    let t18 = t10 ^ t9;
-    let t19 = t18 ^ a1_4;
-    let t20 = t13 ^ a4_2;
-    let t21 = t14 ^ t8;
-    let t22 = t21 ^ a7_6;
-    let t23 = t12 ^ t16;
-    let t24 = t17 ^ t6;
-    let t25 = t23 ^ a5_2;
-    let t26 = t15 ^ p6;
-    let t27 = p7 ^ a6_6;
+    let t0 = a3_4 ^ a7_6;
+    let t1 = a0_6 ^ a1_6;
+    let t2 = a5_2 ^ a1_4;
+    let t3 = a2_2 ^ a4_4;
+    let t4 = a1_2 ^ t0;
+    let t5 = a2_4 ^ t1;
+    let t6 = a0_4 ^ a6_4;
+    let t7 = p0 ^ a3_6;
+    let t8 = a2_6 ^ t5;
+    let t9 = a7_2 ^ a5_4;
+    let t10 = a7_4 ^ t2;
+    let t11 = a6_2 ^ a6_6;
+    let t12 = a2_4 ^ a4_6;
+    let t13 = a4_2 ^ t6;
+    let t14 = p6 ^ t3;
+    let t15 = a0_2 ^ t7;
+    let t16 = p7 ^ a3_2;
+    let t17 = p1 ^ a5_6;
+    let t18 = t8 ^ t10;
+    let t19 = a5_4 ^ t12;
+    let t20 = a4_4 ^ t4;
+    let t21 = a6_6 ^ t16;
+    let t22 = a6_2 ^ t6;
+    let t23 = a0_6 ^ t0;
+    let t24 = a5_6 ^ t14;
+    let t25 = p4 ^ t13;
+    let t26 = p7 ^ a4_6;
+    let t27 = t23 ^ t25;
+    let t28 = t1 ^ t11;
+    let t29 = a7_6 ^ t3;
+    let t30 = t15 ^ t20;
+    let t31 = a6_4 ^ t18;
+    let t32 = a2_6 ^ a4_6;
+    let t33 = p5 ^ t9;
+    let t34 = p3 ^ t19;
+    let t35 = a7_2 ^ t24;
+    let t36 = p6 ^ a6_2;
+    let t37 = a3_6 ^ t4;
+    let t38 = p2 ^ t35;
+    let t39 = t14 ^ t31;
+    let t40 = t11 ^ t29;
+    let t41 = t7 ^ t21;
+    let t42 = a5_2 ^ t9;
+    let o0 = turn(t10 ^ t17 ^ t34 ^ t41 ^ a1_2, 8);
+    let o1 = turn(t11 ^ t12 ^ t17 ^ t27 ^ p0 ^ p2 ^ a2_2, 8);
+    let o2 = turn(t5 ^ t26 ^ t30 ^ t33 ^ p2, 8);
+    let o3 = turn(t39 ^ t41 ^ a3_4, 8);
+    let o4 = turn(t2 ^ t20 ^ t28 ^ p3 ^ a4_2 ^ a2_6 ^ a5_6, 8);
+    let o5 = turn(t8 ^ t15 ^ t40 ^ t42 ^ p4, 8);
+    let o6 = turn(t22 ^ t32 ^ t33 ^ t37 ^ p1 ^ a3_2 ^ a1_6, 8);
+    let o7 = turn(t13 ^ t15 ^ t32 ^ t38 ^ a1_4 ^ a7_4, 8);
     Planes {
-        p0: t19 ^ t6 ^ t8,
-        p1: t12 ^ t19 ^ t20 ^ a0_4,
-        p2: t15 ^ t2 ^ t20 ^ t22 ^ t9 ^ a5_2,
-        p3: t14 ^ t24 ^ t25 ^ p2 ^ p3 ^ a7_2 ^ a2_4,
-        p4: t10 ^ t13 ^ t17 ^ t26 ^ t27 ^ t4 ^ p4 ^ p5,
-        p5: t16 ^ t22 ^ t27 ^ p6 ^ a4_2 ^ a3_4 ^ a6_4 ^ a3_6,
-        p6: t1 ^ t25 ^ t3 ^ p6 ^ a4_4 ^ a5_4 ^ a4_6,
-        p7: t24 ^ t26 ^ t5 ^ a0_2 ^ a2_2 ^ a1_4 ^ a5_6,
+        p0: t9 ^ t18 ^ t36 ^ a7_6 ^ o0,
+        p1: t8 ^ t22 ^ p7 ^ a0_2 ^ a7_2 ^ a3_4 ^ a3_6 ^ o1,
+        p2: t19 ^ t30 ^ t36 ^ a5_2 ^ o2,
+        p3: t4 ^ t17 ^ t26 ^ t39 ^ a0_2 ^ o3,
+        p4: t2 ^ t21 ^ t37 ^ t38 ^ o4,
+        p5: t16 ^ t34 ^ t40 ^ a4_2 ^ o5,
+        p6: t27 ^ t42 ^ a3_2 ^ a5_6 ^ o6,
+        p7: t10 ^ t13 ^ t28 ^ p5 ^ a4_4 ^ o7,
     }
 }

@@ -9,7 +9,7 @@ use Rattle.laws.specs.Xor.{xor, xorAll}
 use Rattle.laws.proofs.OrderLaws.{below8}
 use Rattle.laws.proofs.XorLaws.{xor-assoc, xor-left}
 use Rattle.pi.specs.Field.{only, double, timesBits, times}
-use Rattle.pi.specs.Permutation.{stateBy, substitute, shift, firstRow⁻, turned, mixWith, mix, scramble, added, constant, round, substitute⁻, shift⁻, mix⁻, scramble⁻, round⁻}
+use Rattle.pi.specs.Permutation.{stateBy, substitute, shift, firstRow⁻, turned, mix, scramble, added, constant, round, substitute⁻, shift⁻, mix⁻, scramble⁻, round⁻}
 use Rattle.pi.proofs.Build.{state-at, state-same}
 use Rattle.pi.proofs.StateLaws.{Full}
 use Rattle.pi.proofs.ShiftLaws.{shift⁻-full}
@@ -17,9 +17,7 @@ use Rattle.pi.proofs.MixLaws.{mix⁻-full}
 use Rattle.pi.proofs.RoundLaws.{added-full, constant-full}
 use Rattle.planes.specs.Planes.{flipped, plus, bytesOf}
 use Rattle.planes.specs.declared.Planes.{Planes}
-use Rattle.planes.proofs.FlipLaws.{flipped-full, flip-flip, flipped-added, plus-plus, shift-plus, shift⁻-plus, mixWith-plus, mix-plus}
-use Rattle.mixing.specs.Even.{evenRow}
-use Rattle.mixing.proofs.EvenLaws.{mix-evened}
+use Rattle.planes.proofs.FlipLaws.{flip-flip, flipped-added, plus-plus, shift-plus, shift⁻-plus, mixWith-plus, mix-plus}
 use Rattle.rounds.specs.Rounds.{constantPlanes, alike}
 use Rattle.rounds.proofs.AlikeLaws.{alike-full, plus-added}
 use Rattle.rounds.proofs.ConstantLaws.{constant-planes}
@@ -45,11 +43,9 @@ round-on key x s t w e g =
     ∙ plus-added 0x62 key (mix (shift (substitute x)))
 
 -- ---- and back
-pub unmixed : (k u v p : Planes) (s w : List ℕ) → w ≡ s → bytesOf u ≡ added (bytesOf k) w → flipped (bytesOf v) ≡ mixWith evenRow (flipped (bytesOf u))
-    → flipped (bytesOf p) ≡ mix (flipped (bytesOf v)) → flipped (bytesOf p) ≡ mix⁻ (added (flipped (bytesOf k)) (flipped s))
-unmixed k u v p s w e f g h =
-    h ∙ ap mix g ∙ mix-evened (flipped (bytesOf u)) (flipped-full (bytesOf u))
-    ∙ ap mix⁻ (ap flipped (f ∙ ap (added (bytesOf k)) e) ∙ flipped-added s (bytesOf k))
+pub unmixed : (k u p : Planes) (s w : List ℕ) → w ≡ s → bytesOf u ≡ added (bytesOf k) w → flipped (bytesOf p) ≡ mix⁻ (flipped (bytesOf u))
+    → flipped (bytesOf p) ≡ mix⁻ (added (flipped (bytesOf k)) (flipped s))
+unmixed k u p s w e f g = g ∙ ap mix⁻ (ap flipped (f ∙ ap (added (bytesOf k)) e) ∙ flipped-added s (bytesOf k))
 
 -- a round back, by what each step gives
 pub keyed-back : (r : ℕ) (c e k p : Planes) (s q t : List ℕ) → r < 12 → c ≡ constantPlanes r → bytesOf e ≡ flipped (alike 0x37) → bytesOf k ≡ added (bytesOf e) (bytesOf c)

@@ -2,7 +2,6 @@
 // way back plus 5D: then the circuits need no NOT.
 ghost use mathlib.Core.Path.{_≡_};
 ghost use Prim.Native.Nat.{_+_, _*_, _<_};
-ghost use lib.ListN.{length};
 ghost use Rattle.pi.specs.Permutation.{substitute, shift, mix, added, constant, π, Permuted, substitute⁻, shift⁻, mix⁻, π⁻};
 ghost use Rattle.pi.proofs.StateLaws.{Full};
 ghost use Rattle.planes.specs.Planes.{flipped, plus, bytesOf};
@@ -13,6 +12,7 @@ use numbers::WRONG_LENGTH;
 use planes::Planes;
 
 mod constants;
+mod table;
 
 // ---- The constants.
 fn wide(x: u32) -> u64
@@ -131,7 +131,7 @@ pub fn permute(state: &mut [u8]) -> u8
     if state.len() != STATE_BYTES {
         return WRONG_LENGTH;
     }
-    let t = constants::CONSTANTS;
+    let t = constants::constants();
     let mut s = [0u8; 64];
     let mut q = [0u8; 64];
     buffer::copy(&mut q, state);
@@ -148,7 +148,7 @@ pub fn permute(state: &mut [u8]) -> u8
 fn unscrambled(s: &[u8; 64], k: Planes) -> Planes
     ensures { λ p. ⌜ flipped (bytesOf p) ≡ mix⁻ (added (flipped (bytesOf k)) (flipped (now (s .entry)))) ⌝ }
 {
-    mixing::mixed(mixing::evened(planes::sum(planes::words(s), k)))
+    mixing::mixed_back(planes::sum(planes::words(s), k))
 }
 
 fn round_back(t: &[u32; 192], s: &mut [u8; 64], q: &mut [u8; 64], r: usize)
@@ -168,7 +168,7 @@ pub fn permute_back(state: &mut [u8]) -> u8
     if state.len() != STATE_BYTES {
         return WRONG_LENGTH;
     }
-    let t = constants::CONSTANTS;
+    let t = constants::constants();
     let mut s = [0u8; 64];
     let mut q = [0u8; 64];
     buffer::copy(&mut q, state);

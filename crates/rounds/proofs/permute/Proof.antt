@@ -14,7 +14,6 @@ use Rattle.pi.proofs.RoundLaws.{rounds-full}
 use Rattle.pi.proofs.Answers.{refused, done, rounds-all}
 use Rattle.planes.specs.Planes.{flipped, plus}
 use Rattle.planes.proofs.FlipLaws.{flipped-full}
-use Rattle.rounds.specs.Rounds.{halves}
 use Rattle.rounds.proofs.CopyLaws.{copied}
 use Rattle.rounds.proofs.AlikeLaws.{packed-is, unpacked-is}
 use Rattle.rounds.proofs.PlaneRounds.{round-on}
@@ -35,15 +34,16 @@ unfolding rounds
 loop-holds c =
     let v = c .before .before .before .before .before in
     let u = v .before .before .before in
-    let e = copied _ _ _ refl (u .if1 .left) (v .copy .ensures) in (
+    let e = copied _ _ _ refl (u .before .if1 .left) (v .copy .ensures) in (
       omega arith,
       subst Full e (c .pack .ensures .0),
       packed-is 0x62 _ _ _ (lit< tt) (c .pack .ensures .0) (c .before .every-62 .ensures) (c .pack .ensures .1) ∙ ap (plus 0x62) e,
     )
 
 round-requires : tie.Need-round-requires Inv-loop μ-loop
-unfolding halves
-round-requires c κs = (refl, omega arith)
+round-requires c κs =
+    let u = c .before .before .before .before .before .before .before .before .before .before .before .before .before in
+    (u .constants .ensures, omega arith)
 
 add-r : tie.Need-add-r Inv-loop μ-loop
 add-r c = omega arith
@@ -84,6 +84,7 @@ permute-spec =
     Inv-loop
     μ-loop
     returns
+    (λ c κs. tt)
     (λ c. search needs)
     (λ c κs. tt)
     (λ c κs. tt)

@@ -14,7 +14,6 @@ use Rattle.pi.proofs.RoundLaws.{constant-full, round⁻-full}
 use Rattle.pi.proofs.Answers.{refused, done, back-more, back-all}
 use Rattle.planes.specs.Planes.{flipped, plus}
 use Rattle.planes.proofs.FlipLaws.{flipped-full, plus-full, plus-plus}
-use Rattle.rounds.specs.Rounds.{halves}
 use Rattle.rounds.proofs.CopyLaws.{copied}
 use Rattle.rounds.proofs.AlikeLaws.{packed-is, unpacked-is}
 use Rattle.rounds.proofs.PlaneRounds.{back-on}
@@ -48,7 +47,7 @@ unfolding π⁻
 loop-holds c =
     let v = c .before .before .before .before .before in
     let u = v .before .before .before in
-    let e = copied _ _ _ refl (u .if1 .left) (v .copy .ensures) in
+    let e = copied _ _ _ refl (u .before .if1 .left) (v .copy .ensures) in
     let w = c .pack .ensures .0 in (
       omega arith,
       subst Full e w,
@@ -59,8 +58,9 @@ sub-r : tie.Need-sub-r Inv-loop μ-loop
 sub-r c = omega arith
 
 round-back-requires : tie.Need-round-back-requires Inv-loop μ-loop
-unfolding halves
-round-back-requires c κs = (refl, omega arith)
+round-back-requires c κs =
+    let u = c .before .before .before .before .before .before .before .before .before .before .before .before .before in
+    (u .constants .ensures, omega arith)
 
 loop-less : tie.Need-loop-less Inv-loop μ-loop
 loop-less c = omega arith
@@ -104,6 +104,7 @@ permute-back-spec =
     Inv-loop
     μ-loop
     returns
+    (λ c κs. tt)
     (λ c. search needs)
     (λ c κs. tt)
     (λ c κs. tt)

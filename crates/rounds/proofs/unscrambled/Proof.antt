@@ -5,9 +5,7 @@ use Rattle.rounds.proofs.unscrambled.Statement.{statement}
 use Rattle.rounds.proofs.unscrambled.Tie as tie
 
 returns : tie.Need-returns
-returns c =
-    let v = c .before .before in
-    unmixed _ _ _ _ _ _ (v .before .words .ensures) (v .sum .ensures) (c .before .evened .ensures) (c .mixed .ensures)
+returns c = unmixed _ _ _ _ _ (c .before .before .words .ensures) (c .before .sum .ensures) (c .mixed-back .ensures)
 
 pub unscrambled-spec : {M : Type 1} → statement M
-unscrambled-spec = tie.close (tie.spec (λ c κs. tt) (λ c κs. tt) (λ c κs. tt) (λ c κs. tt) returns)
+unscrambled-spec = tie.close (tie.spec (λ c κs. tt) (λ c κs. tt) (λ c κs. tt) returns)
