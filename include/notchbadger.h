@@ -28,7 +28,9 @@
  *
  * The library keeps nothing between calls. A call takes at most 64 KiB of
  * stack, whatever the image (measured, not proved), so that a thread with a
- * small stack can make it.
+ * small stack can make it. No table is indexed and no branch taken by a byte of
+ * a key, a state or a message, but by the verdict that the call returns (tried
+ * on the archive, not proved).
  */
 #ifndef NOTCHBADGER_H
 #define NOTCHBADGER_H

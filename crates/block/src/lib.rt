@@ -222,18 +222,17 @@ fn used_in(part: &[u8]) -> usize
     wide(part[6]) * 256 + wide(part[7])
 }
 
-// Whether all bytes from `from` on are zero.
+// Whether all bytes from `from` on are zero. All of them are looked at, whatever the first ones hold.
 fn is_zero(bytes: &[u8], from: usize) -> bool
     ensures { λ r. ⌜ r ≡ allZero (drop from (now (bytes .entry))) ⌝ }
 {
+    let mut any: u8 = 0;
     let mut i = from;
     while i < bytes.len() {
-        if bytes[i] != 0 {
-            return false;
-        }
+        any = any | bytes[i];
         i += 1;
     }
-    true
+    any == 0
 }
 
 // Whether byte 5 and the count of bytes used go together in a record's block.

@@ -1,28 +1,78 @@
-// The permutation of STRIBOBr2, its inverse, one round of either, and the rule of its table.
+// The permutation of STRIBOBr2, its inverse, one round of either, and the rule of its table. π itself goes by planes (`rounds`); a round with a
+// key of the caller's, by bytes. No table is indexed and no branch taken by what a state, a key or a byte holds.
 ghost use mathlib.Core.Path.{_≡_};
 ghost use Prim.Native.Nat.{_+_, _*_, _/_, _%_, _≤_, _<_};
-ghost use lib.ListN.{length, getD};
+ghost use lib.ListN.{length};
 ghost use Rattle.laws.specs.Lists.{listed, splice};
-ghost use Rattle.pi.specs.Table.{table, backTable, S, S⁻, E, E⁻, R};
+ghost use Rattle.pi.specs.Table.{S, S⁻};
 ghost use Rattle.pi.specs.Field.{double};
-ghost use Rattle.pi.specs.Permutation.{substitute, source, shift, firstRow, mix, scramble, added, constant, round, π, Permuted, Rounded, substitute⁻, target, shift⁻, firstRow⁻, mix⁻, scramble⁻, round⁻, π⁻};
-ghost use Rattle.permutation.specs.Rows.{rowAt, eight, column};
+ghost use Rattle.pi.specs.Permutation.{source, shift, firstRow, mix, scramble, added, round, π, Permuted, Rounded, target, shift⁻, firstRow⁻, mix⁻, scramble⁻, round⁻, π⁻};
+ghost use Rattle.permutation.specs.Rows.{each, rowAt, eight, column};
 use numbers::DONE;
 use numbers::STATE_BYTES;
 use numbers::WRONG_LENGTH;
 
-mod back;
-mod boxes;
-mod table;
-
-// ---- The table. It is copied to memory once a call, and lent: a constant array is copied anew wherever it is read.
-fn substituted(t: &[u8; 256], x: u8) -> u8
-    requires { ⌜ now t ≡ table ⌝ }
-    ensures { λ r. ⌜ r ≡ S x ⌝ }
+// The state becomes π of it, with 0; or stays, with 2, where its length is not 64.
+pub fn permute(state: &mut [u8]) -> u8
+    ensures { λ r. ⌜ Permuted π (now (state .entry)) r (now (state .exit)) ⌝ }
 {
-    t[x as usize]
+    rounds::permute(state)
 }
 
+// The state becomes the one that π takes to it, with 0; or stays, with 2, where its length is not 64.
+pub fn permute_back(state: &mut [u8]) -> u8
+    ensures { λ r. ⌜ Permuted π⁻ (now (state .entry)) r (now (state .exit)) ⌝ }
+{
+    rounds::permute_back(state)
+}
+
+// ---- The substitution, from the miniboxes. What a byte becomes has one caller, and so has the way back: LLVM then inlines them, and takes
+// several bytes of a loop at once.
+fn replaced(x: u8) -> u8
+    ensures { λ r. ⌜ r ≡ S x ⌝ }
+{
+    let u = gates::box_e(x >> 4);
+    let v = gates::box_e_back(x & 15);
+    let w = gates::box_r(u ^ v);
+    (gates::box_e(u ^ w) << 4) | gates::box_e_back(v ^ w)
+}
+
+fn substitute(bytes: &mut [u8])
+    ensures { λ _. ⌜ now (bytes .exit) ≡ each S (now (bytes .entry)) ⌝ }
+{
+    for k in 0..bytes.len() {
+        bytes[k] = replaced(bytes[k]);
+    }
+}
+
+// The table's entry at x.
+pub fn minibox(x: u8) -> u8
+    ensures { λ r. ⌜ r ≡ S x ⌝ }
+{
+    let mut one = [x];
+    substitute(&mut one);
+    one[0]
+}
+
+// The halves change places on the way in and on the way out: then the same miniboxes undo it.
+fn restored(x: u8) -> u8
+    ensures { λ r. ⌜ r ≡ S⁻ x ⌝ }
+{
+    let u = gates::box_e(x & 15);
+    let v = gates::box_e_back(x >> 4);
+    let w = gates::box_r(u ^ v);
+    (gates::box_e_back(v ^ w) << 4) | gates::box_e(u ^ w)
+}
+
+fn substitute_back(bytes: &mut [u8])
+    ensures { λ _. ⌜ now (bytes .exit) ≡ each S⁻ (now (bytes .entry)) ⌝ }
+{
+    for k in 0..bytes.len() {
+        bytes[k] = restored(bytes[k]);
+    }
+}
+
+// ---- The shift.
 // Where the byte that comes to k is taken from.
 fn source(k: usize) -> usize
     requires { ⌜ k < 64 ⌝ }
@@ -31,23 +81,39 @@ fn source(k: usize) -> usize
     (k / 8 + 8 - k % 8) % 8 * 8 + k % 8
 }
 
-fn substituted_and_shifted(t: &[u8; 256], from: &[u8]) -> [u8; 64]
-    requires { ⌜ (now t ≡ table) × (length (now from) ≡ 64) ⌝ }
-    ensures { λ r. ⌜ r ≡ shift (substitute (now (from .entry))) ⌝ }
+fn shifted(from: &[u8]) -> [u8; 64]
+    requires { ⌜ length (now from) ≡ 64 ⌝ }
+    ensures { λ r. ⌜ r ≡ shift (now (from .entry)) ⌝ }
 {
     let mut to = [0u8; 64];
     for k in 0..64 {
-        to[k] = substituted(t, from[source(k)]);
+        to[k] = from[source(k)];
     }
     to
 }
 
+fn target(k: usize) -> usize
+    requires { ⌜ k < 64 ⌝ }
+    ensures { λ r. ⌜ (r ≡ target k) × (r < 64) ⌝ }
+{
+    (k / 8 + k % 8) % 8 * 8 + k % 8
+}
+
+fn shift_back(from: &[u8; 64], to: &mut [u8])
+    requires { ⌜ length (now to) ≡ 64 ⌝ }
+    ensures { λ _. ⌜ now (to .exit) ≡ shift⁻ (now (from .entry)) ⌝ }
+{
+    for k in 0..64 {
+        to[k] = from[target(k)];
+    }
+}
+
 // ---- Mixing, a row at a time.
+// 1D where bit 7 was set, by a factor of 0 or 1 and not by a branch.
 fn double(x: u8) -> u8
     ensures { λ r. ⌜ r ≡ double x ⌝ }
 {
-    let y = x << 1;
-    if x < 128 { y } else { y ^ 0x1D }
+    (x << 1) ^ ((x >> 7) * 0x1D)
 }
 
 // The bytes of x laid over those from b on.
@@ -102,94 +168,6 @@ fn mix(from: &[u8; 64], to: &mut [u8])
     }
 }
 
-// ---- A round, and the permutation.
-fn scramble(t: &[u8; 256], state: &mut [u8])
-    requires { ⌜ (now t ≡ table) × (length (now state) ≡ 64) ⌝ }
-    ensures { λ _. ⌜ now (state .exit) ≡ scramble (now (state .entry)) ⌝ }
-{
-    let u = substituted_and_shifted(t, state);
-    mix(&u, state);
-}
-
-fn add_constants(t: &[u8; 256], state: &mut [u8], r: usize)
-    requires { ⌜ (now t ≡ table) × (length (now state) ≡ 64) × (r < 12) ⌝ }
-    ensures { λ _. ⌜ now (state .exit) ≡ added (constant r) (now (state .entry)) ⌝ }
-{
-    for k in 0..8 {
-        state[k] = state[k] ^ substituted(t, (r * 8 + k) as u8);
-    }
-}
-
-// Of a round's constant only the first row is added: the others are nothing.
-fn pi_round(t: &[u8; 256], state: &mut [u8], r: usize)
-    requires { ⌜ (now t ≡ table) × (length (now state) ≡ 64) × (r < 12) ⌝ }
-    ensures { λ _. ⌜ now (state .exit) ≡ round (constant r) (now (state .entry)) ⌝ }
-{
-    scramble(t, state);
-    add_constants(t, state, r);
-}
-
-// The state becomes π of it, with 0; or stays, with 2, where its length is not 64.
-pub fn permute(state: &mut [u8]) -> u8
-    ensures { λ r. ⌜ Permuted π (now (state .entry)) r (now (state .exit)) ⌝ }
-{
-    if state.len() != STATE_BYTES {
-        return WRONG_LENGTH;
-    }
-    let t = table::TABLE;
-    for r in 0..12 {
-        pi_round(&t, state, r);
-    }
-    DONE
-}
-
-fn add_key(state: &mut [u8], key: &[u8])
-    requires { ⌜ (length (now state) ≡ 64) × (length (now key) ≡ 64) ⌝ }
-    ensures { λ _. ⌜ now (state .exit) ≡ added (now (key .entry)) (now (state .entry)) ⌝ }
-{
-    buffer::add(state, key);
-}
-
-// One round with a key of the caller's, with 0; or the state stays, with 2, where either length is not 64.
-pub fn round(state: &mut [u8], key: &[u8]) -> u8
-    ensures { λ r. ⌜ Rounded round (now (key .entry)) (now (state .entry)) r (now (state .exit)) ⌝ }
-{
-    if state.len() != STATE_BYTES {
-        return WRONG_LENGTH;
-    }
-    if key.len() != STATE_BYTES {
-        return WRONG_LENGTH;
-    }
-    let t = table::TABLE;
-    scramble(&t, state);
-    add_key(state, key);
-    DONE
-}
-
-// ---- And back.
-fn substituted_back(t: &[u8; 256], x: u8) -> u8
-    requires { ⌜ now t ≡ backTable ⌝ }
-    ensures { λ r. ⌜ r ≡ S⁻ x ⌝ }
-{
-    t[x as usize]
-}
-
-fn target(k: usize) -> usize
-    requires { ⌜ k < 64 ⌝ }
-    ensures { λ r. ⌜ (r ≡ target k) × (r < 64) ⌝ }
-{
-    (k / 8 + k % 8) % 8 * 8 + k % 8
-}
-
-fn shift_and_substitute_back(t: &[u8; 256], from: &[u8; 64], to: &mut [u8])
-    requires { ⌜ (now t ≡ backTable) × (length (now to) ≡ 64) ⌝ }
-    ensures { λ _. ⌜ now (to .exit) ≡ substitute⁻ (shift⁻ (now (from .entry))) ⌝ }
-{
-    for k in 0..64 {
-        to[k] = substituted_back(t, from[target(k)]);
-    }
-}
-
 // The last column: 3Ea + CBb + C2c + C2d + A4e + 0Ef + AFg + 04h, bit by bit as `cell`.
 fn cell_back(a: u8, b: u8, c: u8, d: u8, e: u8, f: u8, g: u8, h: u8) -> u8
     ensures { λ r. ⌜ r ≡ column firstRow⁻ (eight a b c d e f g h) 7 ⌝ }
@@ -236,37 +214,45 @@ fn mixed_back(from: &[u8]) -> [u8; 64]
     to
 }
 
-fn scramble_back(t: &[u8; 256], state: &mut [u8])
-    requires { ⌜ (now t ≡ backTable) × (length (now state) ≡ 64) ⌝ }
-    ensures { λ _. ⌜ now (state .exit) ≡ scramble⁻ (now (state .entry)) ⌝ }
+// ---- A round.
+fn scramble(state: &mut [u8])
+    requires { ⌜ length (now state) ≡ 64 ⌝ }
+    ensures { λ _. ⌜ now (state .exit) ≡ scramble (now (state .entry)) ⌝ }
 {
-    let u = mixed_back(state);
-    shift_and_substitute_back(t, &u, state);
+    substitute(state);
+    let u = shifted(state);
+    mix(&u, state);
 }
 
-fn pi_round_back(t: &[u8; 256], b: &[u8; 256], state: &mut [u8], r: usize)
-    requires { ⌜ (now t ≡ table) × (now b ≡ backTable) × (length (now state) ≡ 64) × (r < 12) ⌝ }
-    ensures { λ _. ⌜ now (state .exit) ≡ round⁻ (constant r) (now (state .entry)) ⌝ }
+fn add_key(state: &mut [u8], key: &[u8])
+    requires { ⌜ (length (now state) ≡ 64) × (length (now key) ≡ 64) ⌝ }
+    ensures { λ _. ⌜ now (state .exit) ≡ added (now (key .entry)) (now (state .entry)) ⌝ }
 {
-    add_constants(t, state, r);
-    scramble_back(b, state);
+    buffer::add(state, key);
 }
 
-// The state becomes the one that π takes to it, with 0; or stays, with 2, where its length is not 64.
-pub fn permute_back(state: &mut [u8]) -> u8
-    ensures { λ r. ⌜ Permuted π⁻ (now (state .entry)) r (now (state .exit)) ⌝ }
+// One round with a key of the caller's, with 0; or the state stays, with 2, where either length is not 64.
+pub fn round(state: &mut [u8], key: &[u8]) -> u8
+    ensures { λ r. ⌜ Rounded round (now (key .entry)) (now (state .entry)) r (now (state .exit)) ⌝ }
 {
     if state.len() != STATE_BYTES {
         return WRONG_LENGTH;
     }
-    let t = table::TABLE;
-    let b = back::BACK;
-    let mut r = 12;
-    while 0 < r {
-        r = r - 1;
-        pi_round_back(&t, &b, state, r);
+    if key.len() != STATE_BYTES {
+        return WRONG_LENGTH;
     }
+    scramble(state);
+    add_key(state, key);
     DONE
+}
+
+fn scramble_back(state: &mut [u8])
+    requires { ⌜ length (now state) ≡ 64 ⌝ }
+    ensures { λ _. ⌜ now (state .exit) ≡ scramble⁻ (now (state .entry)) ⌝ }
+{
+    let u = mixed_back(state);
+    shift_back(&u, state);
+    substitute_back(state);
 }
 
 // The state becomes the one that a round with this key takes to it, with 0; or stays, with 2, where either length is not 64.
@@ -279,40 +265,7 @@ pub fn round_back(state: &mut [u8], key: &[u8]) -> u8
     if key.len() != STATE_BYTES {
         return WRONG_LENGTH;
     }
-    let b = back::BACK;
     add_key(state, key);
-    scramble_back(&b, state);
+    scramble_back(state);
     DONE
-}
-
-// ---- The table by its miniboxes.
-fn box_e(x: u8) -> u8
-    requires { ⌜ x < 16 ⌝ }
-    ensures { λ r. ⌜ (r ≡ getD E x 0) × (r < 16) ⌝ }
-{
-    boxes::BOX_E[x as usize]
-}
-
-fn box_e_back(x: u8) -> u8
-    requires { ⌜ x < 16 ⌝ }
-    ensures { λ r. ⌜ (r ≡ getD E⁻ x 0) × (r < 16) ⌝ }
-{
-    boxes::BOX_E_BACK[x as usize]
-}
-
-fn box_r(x: u8) -> u8
-    requires { ⌜ x < 16 ⌝ }
-    ensures { λ r. ⌜ (r ≡ getD R x 0) × (r < 16) ⌝ }
-{
-    boxes::BOX_R[x as usize]
-}
-
-// The table's entry at x, from the miniboxes alone.
-pub fn minibox(x: u8) -> u8
-    ensures { λ r. ⌜ r ≡ S x ⌝ }
-{
-    let u = box_e(x >> 4);
-    let v = box_e_back(x & 15);
-    let w = box_r(u ^ v);
-    (box_e(u ^ w) << 4) | box_e_back(v ^ w)
 }

@@ -1,13 +1,12 @@
--- The two answers of a call, and one round more.
+-- The two answers of a call, and the last round.
 -- Assumes nothing.
 use mathlib.Core.Path.{_≡_, sym, ap, _∙_}
 use mathlib.Core.List.{List}
-use Prim.Native.Nat.{ℕ, suc, _+_, _-_, _<_}
+use Prim.Native.Nat.{ℕ, suc, _-_, _<_}
 use native.Mathlib.Omega.{arith}
-use native.Mathlib.Numerals.{add-one}
 use borrow.Author.Tests.{ne-eqb, eq-eqb}
 use lib.ListN.{length}
-use Rattle.pi.specs.Permutation.{constant, round, rounds, π, round⁻, rounds⁻, π⁻, isState, Permuted, Rounded}
+use Rattle.pi.specs.Permutation.{constant, rounds, π, round⁻, rounds⁻, π⁻, isState, Permuted, Rounded}
 
 pub refused : (by : List ℕ → List ℕ) (s : List ℕ) → (length s ≡ 64 → ⊥) → Permuted by s 2 s
 unfolding isState
@@ -31,10 +30,6 @@ pub keyed : (by : List ℕ → List ℕ → List ℕ) (key s t : List ℕ) → l
 unfolding isState
 keyed by key s t e h g =
     record { code = rw (eq-eqb (length s) 64 e, eq-eqb (length key) 64 h); state = rw (eq-eqb (length s) 64 e, eq-eqb (length key) 64 h) g }
-
-pub rounds-more : (r : ℕ) (s t u : List ℕ) → t ≡ rounds r s → u ≡ round (constant r) t → u ≡ rounds (r + 1) s
-unfolding rounds
-rounds-more r s t u e g = g ∙ ap (round (constant r)) e ∙ ap (λ (n : ℕ). rounds n s) (sym (add-one r))
 
 pub rounds-all : (r : ℕ) (s t : List ℕ) → t ≡ rounds r s → r ≡ 12 → t ≡ π s
 unfolding π

@@ -2,11 +2,11 @@
 -- Assumes nothing.
 use mathlib.Core.Path.{_≡_, refl}
 use mathlib.Core.List.{List}
-use Prim.Native.Nat.{ℕ, _≤_, _<_}
+use Prim.Native.Nat.{ℕ, _<_}
 use lib.ListN.{length, getD}
 use Rattle.laws.specs.Loops.{front}
 use Rattle.laws.specs.Xor.{xorInto}
-use Rattle.laws.proofs.ListLaws.{length-listed, listed-seen, listed-is, listed-same, front-all, front-rest}
+use Rattle.laws.proofs.ListLaws.{length-listed, listed-seen, listed-is, listed-same, front-all}
 use Rattle.pi.specs.Permutation.{stateBy, added}
 
 pub length-stateBy : (f : ℕ → ℕ) → length (stateBy f) ≡ 64
@@ -28,11 +28,6 @@ state-same f g e = listed-same 64 f g e
 pub state-all : (i : ℕ) (f : ℕ → ℕ) (s t : List ℕ) → t ≡ front i f s → length s ≡ 64 → i ≡ 64 → t ≡ stateBy f
 unfolding stateBy
 state-all i f s t e h k = front-all 64 i f s t e h k
-
--- a loop that stops early, where the rule leaves what follows as it is
-pub state-rest : (i : ℕ) (f : ℕ → ℕ) (s t : List ℕ) → t ≡ front i f s → length s ≡ 64 → i ≤ 64 → ((k : ℕ) → i ≤ k → f k ≡ getD s k 0) → t ≡ stateBy f
-unfolding stateBy
-state-rest i f s t e h b same = front-rest 64 i f s t e h b same
 
 -- what `buffer::add` leaves of a state
 pub added-is : (key s : List ℕ) → length s ≡ 64 → xorInto key s ≡ added key s

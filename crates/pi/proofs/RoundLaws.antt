@@ -3,19 +3,15 @@
 use mathlib.Core.Path.{_≡_, refl, ap, _∙_}
 use mathlib.Core.Bool.{Bool, true, false}
 use mathlib.Core.List.{List}
-use mathlib.Core.Logic.{⊎-elim}
-use Prim.Native.Nat.{ℕ, zero, suc, _+_, _*_, _<_, _≤_}
-use native.Mathlib.Omega.{arith}
-use borrow.Author.Tests.{le-ltb}
+use Prim.Native.Nat.{ℕ, zero, suc, _+_, _*_, _<_}
 use lib.Dec.{lit<, ltb}
-use lib.ListN.{getD, List·getD-eq-default}
+use lib.ListN.{getD}
 use Rattle.laws.specs.Choose.{pick}
 use Rattle.laws.specs.Xor.{xor}
-use Rattle.laws.proofs.OrderLaws.{lt-or-ge}
 use Rattle.laws.proofs.XorLaws.{xor-undone, xor-byte}
 use Rattle.pi.specs.Table.{S}
 use Rattle.pi.specs.Permutation.{substitute, substitute⁻, shift, shift⁻, mix, mix⁻, scramble, scramble⁻, added, constant, round, round⁻, rounds, rounds⁻, π, π⁻}
-use Rattle.pi.proofs.Build.{length-stateBy, state-at, state-is}
+use Rattle.pi.proofs.Build.{state-at, state-is}
 use Rattle.pi.proofs.StateLaws.{Full, state-full}
 use Rattle.pi.proofs.SubstituteLaws.{any-S, substitute-full, substitute⁻-full, substitute⁻-substitute, substitute-substitute⁻}
 use Rattle.pi.proofs.ShiftLaws.{shift-full, shift⁻-full, shift⁻-shift, shift-shift⁻}
@@ -38,13 +34,6 @@ constant-full r = state-full _ (λ k. either k (ltb k 8))
   where
     either : (k : ℕ) (b : Bool) → pick b (S (r * 8 + k)) 0 < 256
     either k = elim [ true ↦ any-S (r * 8 + k) | false ↦ lit< tt ]
-
--- the other rows of a round's constant are nothing, and so is what stands past them
-pub other-rows : (r k : ℕ) → 8 ≤ k → getD (constant r) k 0 ≡ 0
-unfolding constant
-other-rows r k h =
-    ⊎-elim (λ l. state-at _ k l ∙ rw (le-ltb k 8 h))
-    (λ l. List·getD-eq-default (constant r) 0 {n = k} (omega (arith, length-stateBy (λ k. pick (ltb k 8) (S (r * 8 + k)) 0)))) (lt-or-ge k 64)
 
 -- ---- a round, and the permutation
 pub scramble-full : (s : List ℕ) → Full (scramble s)

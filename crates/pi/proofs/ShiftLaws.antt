@@ -1,6 +1,6 @@
--- Shift: where a byte goes, with substitution in one step, and either way undoes the other.
+-- Shift: where a byte goes, and either way undoes the other.
 -- Assumes nothing.
-use mathlib.Core.Path.{_≡_, sym, ap, _∙_}
+use mathlib.Core.Path.{_≡_, ap, _∙_}
 use mathlib.Core.Bool.{Bool}
 use mathlib.Core.List.{List}
 use Prim.Native.Nat.{ℕ, _<_}
@@ -9,9 +9,8 @@ use lib.Dec.{eqb, eqb→eq}
 use lib.ListN.{getD}
 use Rattle.laws.specs.Lists.{listed}
 use Rattle.laws.proofs.TableLaws.{at}
-use Rattle.pi.specs.Table.{S, S⁻}
-use Rattle.pi.specs.Permutation.{stateBy, substitute, substitute⁻, source, target, shift, shift⁻}
-use Rattle.pi.proofs.Build.{state-at, state-is, state-same}
+use Rattle.pi.specs.Permutation.{source, target, shift, shift⁻}
+use Rattle.pi.proofs.Build.{state-at, state-is}
 use Rattle.pi.proofs.StateLaws.{Full, places, state-full}
 
 pub shift-full : (s : List ℕ) → Full s → Full (shift s)
@@ -29,15 +28,6 @@ target-below k = omega arith
 source-below : (k : ℕ) → source k < 64
 unfolding source
 source-below k = omega arith
-
--- both steps at once
-pub moved : (s : List ℕ) → stateBy (λ k. S (getD s (source k) 0)) ≡ shift (substitute s)
-unfolding shift substitute
-moved s = state-same _ _ (λ k h. sym (state-at (λ k. S (getD s k 0)) (source k) (source-below k)))
-
-pub moved⁻ : (s : List ℕ) → stateBy (λ k. S⁻ (getD s (target k) 0)) ≡ substitute⁻ (shift⁻ s)
-unfolding shift⁻ substitute⁻
-moved⁻ s = state-same _ _ (λ k h. ap S⁻ (sym (state-at (λ k. getD s (target k) 0) k h)))
 
 there : ℕ → ℕ → Bool
 there k x = eqb (source (target k)) k

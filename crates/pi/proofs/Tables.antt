@@ -55,8 +55,19 @@ pub S-S⁻ : (x : ℕ) → x < 256 → S (S⁻ x) ≡ x
 unfolding S S⁻ table backTable redone
 S-S⁻ x h = eqb→eq (S (getD backTable x 0)) x (at redone backTable tt x h)
 
--- what the code finds step by step is what the miniboxes make of x
-pub pieces : (x lo u v w a b : ℕ) → lo ≡ x % 16 → u ≡ getD E (x / 16) 0 → v ≡ getD E⁻ lo 0 → w ≡ getD R (xor u v) 0
+-- the miniboxes undo the table too, where the halves change places on the way in and on the way out
+unfoldable pub swapped : ℕ → ℕ
+swapped x = x % 16 * 16 + x / 16
+
+as-unboxed : ℕ → ℕ → Bool
+as-unboxed k x = eqb x (swapped (miniboxed (swapped k)))
+
+pub unboxed : (x : ℕ) → x < 256 → S⁻ x ≡ swapped (miniboxed (swapped x))
+unfolding S⁻ backTable as-unboxed swapped miniboxed halves joined E E⁻ R xor
+unboxed x h = eqb→eq (getD backTable x 0) (swapped (miniboxed (swapped x))) (at as-unboxed backTable tt x h)
+
+-- what the code finds step by step, of the halves h and l of a byte, is what the miniboxes make of it
+pub pieces : (x h l u v w a b : ℕ) → h ≡ x / 16 → l ≡ x % 16 → u ≡ getD E h 0 → v ≡ getD E⁻ l 0 → w ≡ getD R (xor u v) 0
     → a ≡ getD E (xor u w) 0 → b ≡ getD E⁻ (xor v w) 0 → a * 16 + b ≡ miniboxed x
 unfolding miniboxed halves joined
-pieces x lo u v w a b e₁ e₂ e₃ e₄ e₅ e₆ = cc
+pieces x h l u v w a b eh el eu ev ew ea eb = cc

@@ -1,7 +1,7 @@
 -- A call and the call that undoes it leave the state as it was, whatever it is: permute and permute_back, round and round_back, each
 -- first or last.
 -- Assumes nothing.
-use mathlib.Core.Path.{_≡_, refl, ap, _∙_}
+use mathlib.Core.Path.{_≡_, refl, _∙_}
 use mathlib.Core.Bool.{Bool, true, false, _&&_}
 use mathlib.Core.List.{List}
 use Prim.Native.Nat.{ℕ}

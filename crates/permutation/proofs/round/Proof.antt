@@ -1,7 +1,5 @@
 -- `permutation::round` meets its contract: the two refusals, then its two steps.
 -- Assumes nothing.
-use mathlib.Core.Path.{refl}
-use Rattle.pi.specs.Table.{table}
 use Rattle.pi.specs.Permutation.{round}
 use Rattle.pi.proofs.Answers.{no-state, no-key, keyed}
 use borrow.Author.Needs.{needs}
@@ -19,8 +17,7 @@ returns-2 : tie.Need-returns-2
 returns-2 c = no-key _ _ _ (c .if2 .taken) (c .before .if1 .left)
 
 scramble-requires : tie.Need-scramble-requires
-unfolding table
-scramble-requires c κs = (refl, c .before .before .before .if1 .left)
+scramble-requires c κs = search needs
 
 add-key-requires : tie.Need-add-key-requires
 add-key-requires c κs = search needs
@@ -31,7 +28,7 @@ same-length c = search needs
 returns-3 : tie.Need-returns-3
 unfolding round
 returns-3 c =
-    let at-if2 = c .before .before .before .before .before .before .before .before .before in
+    let at-if2 = c .before .before .before .before .before .before .before .before in
     let at-if1 = at-if2 .before in
     keyed _ _ _ _ (at-if1 .if1 .left) (at-if2 .if2 .left) (cc)
 

@@ -1,7 +1,6 @@
 -- `permutation::round_back` meets its contract: the two refusals, then its two steps.
 -- Assumes nothing.
-use mathlib.Core.Path.{refl, _∙_}
-use Rattle.pi.specs.Table.{backTable}
+use mathlib.Core.Path.{_∙_}
 use Rattle.pi.specs.Permutation.{round⁻}
 use Rattle.pi.proofs.Answers.{no-state, no-key, keyed}
 use borrow.Author.Needs.{needs}
@@ -22,8 +21,7 @@ add-key-requires : tie.Need-add-key-requires
 add-key-requires c κs = search needs
 
 scramble-back-requires : tie.Need-scramble-back-requires
-unfolding backTable
-scramble-back-requires c κs = (refl, c .before .before .before .before .add-key .kept .0 ∙ c .before .before .before .before .before .before .before .if1 .left)
+scramble-back-requires c κs = c .before .before .before .add-key .kept .0 ∙ c .before .before .before .before .before .before .if1 .left
 
 same-length : tie.Need-same-length
 same-length c = search needs
@@ -31,7 +29,7 @@ same-length c = search needs
 returns-3 : tie.Need-returns-3
 unfolding round⁻
 returns-3 c =
-    let at-if2 = c .before .before .before .before .before .before .before .before .before in
+    let at-if2 = c .before .before .before .before .before .before .before .before in
     let at-if1 = at-if2 .before in
     keyed _ _ _ _ (at-if1 .if1 .left) (at-if2 .if2 .left) (cc)
 

@@ -1,0 +1,62 @@
+-- `permutation::shift_back` meets its contract. The invariant of its loop: the first k bytes are in their places.
+-- Assumes nothing.
+use native.Mathlib.Omega.{arith}
+use mathlib.Core.Path.{_≡_, ap}
+use mathlib.Core.List.{List}
+use Prim.Native.Nat.{ℕ, _-_, _≤_}
+use lib.ListN.{length, getD, length-set}
+use Rattle.laws.specs.Loops.{front}
+use Rattle.laws.proofs.ListLaws.{front-none, front-more}
+use Rattle.pi.specs.Permutation.{target, shift⁻}
+use Rattle.pi.proofs.Build.{state-all}
+use Rattle.permutation.proofs.shift_back.Statement.{statement}
+use Rattle.permutation.proofs.shift_back.Tie as tie
+
+rule : List ℕ → ℕ → ℕ
+rule s k = getD s (target k) 0
+
+abbrev Inv-loop : tie.InvT-loop
+Inv-loop from to₀ k₀ to k = (k ≤ 64) × (length to ≡ 64) × (length to₀ ≡ 64) × (to ≡ front k (rule from) to₀)
+
+abbrev μ-loop : tie.MeasureT-loop
+μ-loop from to₀ k₀ to k = 64 - k
+
+loop-holds : tie.Need-loop-holds Inv-loop μ-loop
+loop-holds c = (omega arith, c .before .pre, c .before .pre, front-none _ _)
+
+target-requires : tie.Need-target-requires Inv-loop μ-loop
+target-requires c κs = omega arith
+
+element-copy-out-to : tie.Need-element-copy-out-to Inv-loop μ-loop
+element-copy-out-to c = omega arith
+
+slice-write-to : tie.Need-slice-write-to Inv-loop μ-loop
+slice-write-to c = omega arith
+
+add-k : tie.Need-add-k Inv-loop μ-loop
+add-k c = omega arith
+
+loop-less : tie.Need-loop-less Inv-loop μ-loop
+loop-less c = omega arith
+
+loop-again : tie.Need-loop-again Inv-loop μ-loop
+unfolding rule
+loop-again c =
+    let at = c .before .before .before in
+    let s = at .before .before .args .from .now in (
+      omega arith,
+      simp length-set (omega arith),
+      at .loop .inv .2,
+      front-more _ _ _ _ _ (at .loop .inv .3) (omega arith) (ap (λ (n : ℕ). getD s n 0) (c .before .target .ensures .0)),
+    )
+
+same-length : tie.Need-same-length Inv-loop μ-loop
+same-length c = omega arith
+
+returns : tie.Need-returns Inv-loop μ-loop
+unfolding rule shift⁻
+returns c = state-all _ _ _ _ (c .before .loop .inv .3) (c .before .loop .inv .2) (omega arith)
+
+pub shift-back-spec : {M : Type 1} → statement M
+shift-back-spec =
+    tie.close (tie.spec Inv-loop μ-loop loop-holds target-requires element-copy-out-to slice-write-to add-k loop-less loop-again same-length returns)

@@ -1,0 +1,53 @@
+-- `permutation::substitute` meets its contract. The invariant of its loop: the first k bytes are done.
+-- Assumes nothing.
+use mathlib.Core.Path.{_≡_, refl, ap, _∙_}
+use Prim.Native.Nat.{_-_, _≤_}
+use native.Mathlib.Omega.{arith}
+use lib.ListN.{length, length-set}
+use Rattle.laws.specs.Loops.{front}
+use Rattle.laws.proofs.ListLaws.{front-none, front-seen, front-more}
+use Rattle.pi.specs.Table.{S}
+use Rattle.permutation.proofs.Each.{rule, rule-at, each-all}
+use Rattle.permutation.proofs.substitute.Statement.{statement}
+use Rattle.permutation.proofs.substitute.Tie as tie
+
+abbrev Inv-loop : tie.InvT-loop
+Inv-loop bytes₀ k₀ k-end bytes k = (k ≤ k-end) × (k-end ≡ length bytes₀) × (length bytes ≡ length bytes₀) × (bytes ≡ front k (rule S bytes₀) bytes₀)
+
+abbrev μ-loop : tie.MeasureT-loop
+μ-loop bytes₀ k₀ k-end bytes k = k-end - k
+
+loop-holds : tie.Need-loop-holds Inv-loop μ-loop
+loop-holds c = (omega arith, refl, refl, front-none _ _)
+
+slice-read-replaced : tie.Need-slice-read-replaced Inv-loop μ-loop
+slice-read-replaced c = omega arith
+
+slice-write-bytes : tie.Need-slice-write-bytes Inv-loop μ-loop
+slice-write-bytes c = omega arith
+
+add-k : tie.Need-add-k Inv-loop μ-loop
+add-k c = omega arith
+
+loop-less : tie.Need-loop-less Inv-loop μ-loop
+loop-less c = omega arith
+
+loop-again : tie.Need-loop-again Inv-loop μ-loop
+loop-again c =
+    let l = c .before .before .before .loop in (
+      omega arith,
+      l .inv .1,
+      simp length-set (omega arith),
+      front-more _ _ _ _ _ (l .inv .3) (omega arith) (c .replaced .ensures ∙ ap S (front-seen _ _ _ _ (l .inv .3) (omega arith)) ∙ rule-at S _ (l .k)),
+    )
+
+same-length : tie.Need-same-length Inv-loop μ-loop
+same-length c = omega arith
+
+returns : tie.Need-returns Inv-loop μ-loop
+returns c = each-all S _ _ (c .before .loop .k) (c .before .loop .inv .3) (omega arith)
+
+pub substitute-spec : {M : Type 1} → statement M
+substitute-spec =
+    tie.close
+    (tie.spec Inv-loop μ-loop loop-holds slice-read-replaced (λ c κs. tt) slice-write-bytes add-k loop-less loop-again same-length returns)
