@@ -1,4 +1,4 @@
-/* The same work by plain C: the peer's sealing, blocks, writer and reader, over groups.c and one of the two permutations here. */
+/* The same work by plain C: the peer's sealing, blocks, writer and reader, over groups.c and one of the permutations here. */
 #include "../peer/pi.h"
 #include "../peer/reader.h"
 #include "../peer/seal.h"

@@ -1,4 +1,4 @@
-/* Table 1.1 of the STRIBOBr2 paper, for both permutations here. */
+/* Table 1.1 of the STRIBOBr2 paper, for the permutations here. */
 #ifndef BENCHMARKS_TABLE_H
 #define BENCHMARKS_TABLE_H
 
