@@ -24,21 +24,6 @@ abbrev μ-loop : tie.MeasureT-loop
 loop-holds : tie.Need-loop-holds Inv-loop μ-loop
 loop-holds c = (omega arith, c .before .pre, c .before .pre, front-none _ _)
 
-target-requires : tie.Need-target-requires Inv-loop μ-loop
-target-requires c κs = omega arith
-
-element-copy-out-to : tie.Need-element-copy-out-to Inv-loop μ-loop
-element-copy-out-to c = omega arith
-
-slice-write-to : tie.Need-slice-write-to Inv-loop μ-loop
-slice-write-to c = omega arith
-
-add-k : tie.Need-add-k Inv-loop μ-loop
-add-k c = omega arith
-
-loop-less : tie.Need-loop-less Inv-loop μ-loop
-loop-less c = omega arith
-
 loop-again : tie.Need-loop-again Inv-loop μ-loop
 unfolding rule
 loop-again c =
@@ -50,13 +35,10 @@ loop-again c =
       front-more _ _ _ _ _ (at .loop .inv .3) (omega arith) (ap (λ (n : ℕ). getD s n 0) (c .before .target .ensures .0)),
     )
 
-same-length : tie.Need-same-length Inv-loop μ-loop
-same-length c = omega arith
-
 returns : tie.Need-returns Inv-loop μ-loop
 unfolding rule shift⁻
 returns c = state-all _ _ _ _ (c .before .loop .inv .3) (c .before .loop .inv .2) (omega arith)
 
 pub shift-back-spec : {M : Type 1} → statement M
 shift-back-spec =
-    tie.close (tie.spec Inv-loop μ-loop loop-holds target-requires element-copy-out-to slice-write-to add-k loop-less loop-again same-length returns)
+    tie.close (tie.spec Inv-loop μ-loop loop-holds (λ c κs. omega arith) (λ c. omega arith) (λ c. omega arith) (λ c. omega arith) (λ c. omega arith) loop-again (λ c. omega arith) returns)

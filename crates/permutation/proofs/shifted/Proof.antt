@@ -24,21 +24,6 @@ abbrev μ-loop : tie.MeasureT-loop
 loop-holds : tie.Need-loop-holds Inv-loop μ-loop
 loop-holds c = (omega arith, refl, refl, front-none _ _)
 
-source-requires : tie.Need-source-requires Inv-loop μ-loop
-source-requires c κs = omega arith
-
-shared-slice-read-to : tie.Need-shared-slice-read-to Inv-loop μ-loop
-shared-slice-read-to c = omega arith
-
-array-write-to : tie.Need-array-write-to Inv-loop μ-loop
-array-write-to c = omega arith
-
-add-k : tie.Need-add-k Inv-loop μ-loop
-add-k c = omega arith
-
-loop-less : tie.Need-loop-less Inv-loop μ-loop
-loop-less c = omega arith
-
 loop-again : tie.Need-loop-again Inv-loop μ-loop
 unfolding rule
 loop-again c =
@@ -56,4 +41,4 @@ returns c = state-all _ _ _ _ (c .before .loop .inv .3) refl (omega arith)
 
 pub shifted-spec : {M : Type 1} → statement M
 shifted-spec =
-    tie.close (tie.spec Inv-loop μ-loop loop-holds source-requires shared-slice-read-to array-write-to add-k loop-less loop-again returns)
+    tie.close (tie.spec Inv-loop μ-loop loop-holds (λ c κs. omega arith) (λ c. omega arith) (λ c. omega arith) (λ c. omega arith) (λ c. omega arith) loop-again returns)

@@ -20,18 +20,6 @@ abbrev μ-loop : tie.MeasureT-loop
 loop-holds : tie.Need-loop-holds Inv-loop μ-loop
 loop-holds c = (omega arith, refl, refl, front-none _ _)
 
-slice-read-replaced : tie.Need-slice-read-replaced Inv-loop μ-loop
-slice-read-replaced c = omega arith
-
-slice-write-bytes : tie.Need-slice-write-bytes Inv-loop μ-loop
-slice-write-bytes c = omega arith
-
-add-k : tie.Need-add-k Inv-loop μ-loop
-add-k c = omega arith
-
-loop-less : tie.Need-loop-less Inv-loop μ-loop
-loop-less c = omega arith
-
 loop-again : tie.Need-loop-again Inv-loop μ-loop
 loop-again c =
     let l = c .before .before .before .loop in (
@@ -41,13 +29,10 @@ loop-again c =
       front-more _ _ _ _ _ (l .inv .3) (omega arith) (c .replaced .ensures ∙ ap S (front-seen _ _ _ _ (l .inv .3) (omega arith)) ∙ rule-at S _ (l .k)),
     )
 
-same-length : tie.Need-same-length Inv-loop μ-loop
-same-length c = omega arith
-
 returns : tie.Need-returns Inv-loop μ-loop
 returns c = each-all S _ _ (c .before .loop .k) (c .before .loop .inv .3) (omega arith)
 
 pub substitute-spec : {M : Type 1} → statement M
 substitute-spec =
     tie.close
-    (tie.spec Inv-loop μ-loop loop-holds slice-read-replaced (λ c κs. tt) slice-write-bytes add-k loop-less loop-again same-length returns)
+    (tie.spec Inv-loop μ-loop loop-holds (λ c. omega arith) (λ c κs. tt) (λ c. omega arith) (λ c. omega arith) (λ c. omega arith) loop-again (λ c. omega arith) returns)
