@@ -32,7 +32,7 @@ image_sized image e =
 
 -- ---- image, then key
 pub record Asked (key image : List ℕ) : Type 0 where
-  pub image_ok_lem : image_ok image ≡ true
+  pub image_holds : image_ok image ≡ true
   pub key24 : length key ≡ 24
 
 module _ (key image : List ℕ) where
@@ -49,11 +49,11 @@ module _ (key image : List ℕ) where
   -- with none the rest decides
   pub asks_rest : Asked key image → (rest : ℕ) → image_then_key key image rest ≡ rest
   unfolding image_then_key
-  asks_rest a rest = rw (a.image_ok_lem, key_ok_lem key a.key24)
+  asks_rest a rest = rw (a.image_holds, key_ok_lem key a.key24)
 
   pub asked : (rest : ℕ) → image_then_key key image rest ≡ 0 → Asked key image × (rest ≡ 0)
   unfolding image_then_key
   asked rest e =
       let a = no_refusal (image_ok image) 0 _ e in
       let b = no_refusal (key_ok key) 1 rest a.1 in
-      (record { image_ok_lem = a.0; key24 = key_24 key b.0 }, b.1)
+      (record { image_holds = a.0; key24 = key_24 key b.0 }, b.1)

@@ -28,7 +28,7 @@ use Rattle.cartridge.specs.Handed.{Handed, hands_out, handed}
 use Rattle.cartridge.specs.Recovered.{spoiled, intact, Damaged}
 use Rattle.cartridge.specs.ByCalls.{Writes, last, next, taken_by, Step, step, Reads, over, stop, goes, in_hand, all_in_hand}
 use Rattle.cartridge.proofs.Made.{made}
-use Rattle.cartridge.proofs.CanBeMet.{image_ok_lem}
+use Rattle.cartridge.proofs.CanBeMet.{image_holds}
 use Rattle.cartridge.proofs.Demand3.{demand_3}
 
 -- ---- writing: what the calls leave is what the chain leaves, and what their answers say was taken is what it accepted
@@ -167,8 +167,8 @@ demand_3_by_calls r c e b ch k hk now d buffer hb xs rs =
     let p = j.proper in
     let shut = sym (ap (λ (v : WriterState). v.closed) j.state) ∙ k in
     let x = demand_3 r p shut now d in
-    let ok = same_size now (left r).image d.long (image_ok_lem a (left r).state (left r).image (items r) (made r p) hk) in
-    let y = by_reads a.key a.id a.recording now (record { image_ok_lem = ok; key24 = hk }) (capacity_of now) 0 buffer xs (omega arith) hb rs in (
+    let ok = same_size now (left r).image d.long (image_holds a (left r).state (left r).image (items r) (made r p) hk) in
+    let y = by_reads a.key a.id a.recording now (record { image_holds = ok; key24 = hk }) (capacity_of now) 0 buffer xs (omega arith) hb rs in (
       y.0 ∙ x.gives ∙ ap₂ (λ (w : List ℕ) (is : List Item). intact (spoiled w now) 0 is) (sym j.bytes) (sym j.taken),
       rw y.1 (x.short (capacity_of now)),
     )

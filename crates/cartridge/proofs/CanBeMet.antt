@@ -24,9 +24,9 @@ use Rattle.cartridge.proofs.Made.{Made, made}
 
 -- a state that a chain left open is ready for a call
 module _ (a : Setup) (s : WriterState) (img : List ℕ) (is : List Item) (m : Made a s img is) (k : length a.key ≡ 24) where
-  pub image_ok_lem : image_ok img ≡ true
+  pub image_holds : image_ok img ≡ true
   unfolding image_ok size_ok
-  image_ok_lem =
+  image_holds =
       let l = m.long in
       let g = m.large in
       let h = m.small in
@@ -43,12 +43,12 @@ module _ (a : Setup) (s : WriterState) (img : List ℕ) (is : List Item) (m : Ma
       let p : s.position < s.capacity = omega (arith, rw o at m.place) in
       let f = all_marks_fit is in
       record {
-        asked = record { image_ok_lem = image_ok_lem; key24 = k };
+        asked = record { image_holds = image_holds; key24 = k };
         is_lawful = lawful_holds s (capacity_of img) (record {
           capacity_is = omega arith;
-          zone_ok_lem = rw (le-leb 1 s.zone z.0, lt-ltb s.zone s.capacity (omega arith));
+          zone_holds = rw (le-leb 1 s.zone z.0, lt-ltb s.zone s.capacity (omega arith));
           marks_low = omega (arith, rw o at m.place, m.counts);
-          place_ok_lem = rw o (lt-ltb s.position s.capacity p);
+          place_holds = rw o (lt-ltb s.position s.capacity p);
         });
         is_open = o;
       }

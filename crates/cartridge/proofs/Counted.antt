@@ -27,7 +27,7 @@ use Rattle.cartridge.specs.Chain.{Call, item, closing, call, chain, AllCallBytes
 use Rattle.cartridge.specs.ByCalls.{Writes}
 use Rattle.cartridge.specs.Handed.{Handed, hands_out, handed}
 use Rattle.cartridge.proofs.Made.{made}
-use Rattle.cartridge.proofs.CanBeMet.{image_ok_lem}
+use Rattle.cartridge.proofs.CanBeMet.{image_holds}
 use Rattle.cartridge.proofs.Demand3.{placed, nothing_lost}
 use Rattle.cartridge.proofs.ByCalls.{as_run}
 
@@ -94,8 +94,8 @@ module _ (r : Run) (p : Proper r) where
   refused_keyless : (report_number r.setup.key (left r).image ≡ 0 → ⊥) → length r.setup.key ≡ 24 → ⊥
   unfolding report_number
   refused_keyless n k =
-      let ok = image_ok_lem r.setup (left r).state (left r).image (items r) (made r p) k in
-      n (asks_rest r.setup.key (left r).image (record { image_ok_lem = ok; key24 = k }) 0)
+      let ok = image_holds r.setup (left r).state (left r).image (items r) (made r p) k in
+      n (asks_rest r.setup.key (left r).image (record { image_holds = ok; key24 = k }) 0)
 
   begins_at_0 : (begun r.setup).state.marks ≡ 0
   begins_at_0 = (made (record { setup = r.setup; calls = [] }) (record { starts = p.starts; bytes = tt })).counts

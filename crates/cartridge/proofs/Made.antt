@@ -170,7 +170,7 @@ module _ (a : Setup) (s : WriterState) (img : List ℕ) (is : List Item) (m : Ma
       go zero e =
           let f = item_fits s a.key img i e in
           rw (took_answered i s (s.position + size i))
-          (made_item a s img is m f.ready.is_open i (sound i f.length_ok_lem) b (let h = f.room_ok in omega arith))
+          (made_item a s img is m f.ready.is_open i (sound i f.length_holds) b (let h = f.room_ok in omega arith))
       go (suc k) e = rw append-nil m
 
   made_closing : let d = close s a.key img in Made a d.state d.image (is ++ took d.reply closing)

@@ -24,7 +24,7 @@ readable key image p room e =
     let a = asked key image _ e in
     let d = no_refusal (leb 31232 room) 1 _ a.1 in
     let f = no_refusal (ltb p (length image / 512)) 7 0 d.1 in
-    let z = image_sized image a.0.image_ok_lem in
+    let z = image_sized image a.0.image_holds in
     let b = z.blocks in
     let m = z.most in
     record { key24 = a.0.key24; place = ltb-true _ _ f.0; most = omega arith; enough = leb-true _ _ d.0 }

@@ -35,9 +35,9 @@ zoned c e z =
 -- lawful, taken apart and put together
 pub record StateLawful (s : WriterState) (c : ℕ) : Type 0 where
   pub capacity_is : s.capacity ≡ c
-  pub zone_ok_lem : zone_ok s.capacity s.zone ≡ true
+  pub zone_holds : zone_ok s.capacity s.zone ≡ true
   pub marks_low : s.marks ≤ s.position
-  pub place_ok_lem : place_ok s ≡ true
+  pub place_holds : place_ok s ≡ true
 
 pub lawfully : (s : WriterState) (c : ℕ) → lawful s c ≡ true → StateLawful s c
 unfolding lawful marks_ok
@@ -46,9 +46,9 @@ lawfully s c e =
     let g = both_right (zone_ok s.capacity s.zone) (marks_ok s && place_ok s) f in
     record {
       capacity_is = eqb-true s.capacity c (both_left (eqb s.capacity c) (zone_ok s.capacity s.zone && (marks_ok s && place_ok s)) e);
-      zone_ok_lem = both_left (zone_ok s.capacity s.zone) (marks_ok s && place_ok s) f;
+      zone_holds = both_left (zone_ok s.capacity s.zone) (marks_ok s && place_ok s) f;
       marks_low = leb-true s.marks s.position (both_left (marks_ok s) (place_ok s) g);
-      place_ok_lem = both_right (marks_ok s) (place_ok s) g;
+      place_holds = both_right (marks_ok s) (place_ok s) g;
     }
 
 -- with the other tests passed the place decides
@@ -65,7 +65,7 @@ unfolding place_ok
 place_closed s o h = rw (o, le-leb 1 s.position h)
 
 pub lawful_holds : (s : WriterState) (c : ℕ) → StateLawful s c → lawful s c ≡ true
-lawful_holds s c l = place_decides s c l.capacity_is l.zone_ok_lem l.marks_low ∙ l.place_ok
+lawful_holds s c l = place_decides s c l.capacity_is l.zone_holds l.marks_low ∙ l.place_holds
 
 -- all of it, for a call that is ready
 pub record Facts (s : WriterState) (image : List ℕ) : Type 0 where
@@ -81,15 +81,15 @@ pub facts : {s : WriterState} {key image : List ℕ} → Ready s key image → F
 facts {s} {key} {image} r =
     let l = lawfully s (capacity_of image) r.is_lawful in
     let c : s.capacity ≡ capacity_of image = l.capacity_is in
-    let w = image_sized image r.asked.image_ok_lem in
-    let z = zoned s.capacity s.zone l.zone_ok_lem in
+    let w = image_sized image r.asked.image_holds in
+    let z = zoned s.capacity s.zone l.zone_holds in
     record {
       blocks = w.blocks ∙ ap (λ (k : ℕ). 512 * k) (sym c);
       capacity_is = c;
       most = omega arith;
       zone_low = z.low;
       zone_high = z.high;
-      before_held = ltb-true s.position s.capacity (sym (place_open s r.is_open) ∙ l.place_ok);
+      before_held = ltb-true s.position s.capacity (sym (place_open s r.is_open) ∙ l.place_holds);
       marks_low = l.marks_low;
     }
 
@@ -138,7 +138,7 @@ item_asks r i = call_asks r _
 -- an item that is not refused
 pub record Fits (s : WriterState) (key image : List ℕ) (i : Item) : Type 0 where
   pub ready : Ready s key image
-  pub length_ok_lem : length_ok i ≡ true
+  pub length_holds : length_ok i ≡ true
   pub room_ok : s.position + size i < s.capacity
 
 pub item_fits : (s : WriterState) (key image : List ℕ) (i : Item) → item_number s key image i ≡ 0 → Fits s key image i
@@ -147,7 +147,7 @@ item_fits s key image i e =
     let a = call_ready s key image _ e in
     let b = no_refusal (length_ok i) 3 _ a.1 in
     let c = no_refusal (ltb (s.position + size i) s.capacity) 4 0 b.1 in
-    record { ready = a.0; length_ok_lem = b.0; room_ok = ltb-true (s.position + size i) s.capacity c.0 }
+    record { ready = a.0; length_holds = b.0; room_ok = ltb-true (s.position + size i) s.capacity c.0 }
 
 -- ---- what may be written: a record's length is 1 to 31,232, and it takes 64 blocks at most
 pub record Lengthy (b : List ℕ) : Type 0 where

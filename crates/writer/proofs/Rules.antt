@@ -153,9 +153,9 @@ unfolding place_ok
 open_holds s p n c l h m =
     lawful_holds (moved s p false n) c (record {
       capacity_is = l.capacity_is;
-      zone_ok_lem = l.zone_ok_lem;
+      zone_holds = l.zone_holds;
       marks_low = m;
-      place_ok_lem = lt-ltb p s.capacity (omega (arith, l.capacity_is));
+      place_holds = lt-ltb p s.capacity (omega (arith, l.capacity_is));
     })
 
 pub stays_lawful : (s : WriterState) (key image : List ℕ) (i : Item) → reply_number (write s key image i).reply ≡ 0
@@ -174,9 +174,9 @@ closed_holds s p c l n h m =
     let g : p ≤ s.capacity = omega (arith, l.capacity_is) in
     lawful_holds (moved s p true s.marks) c (record {
       capacity_is = l.capacity_is;
-      zone_ok_lem = l.zone_ok_lem;
+      zone_holds = l.zone_holds;
       marks_low = m;
-      place_ok_lem = rw (le-leb 1 p n, le-leb p s.capacity g);
+      place_holds = rw (le-leb 1 p n, le-leb p s.capacity g);
     })
 
 pub closing_stays_lawful : (s : WriterState) (key image : List ℕ) → reply_number (close s key image).reply ≡ 0

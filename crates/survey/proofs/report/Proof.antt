@@ -30,7 +30,7 @@ between-requires : tie.Need-between-requires
 unfolding capacity_of
 between-requires c κs =
     let a = (asked _ _ 0 (sym c.before.before.before.image-then-key.ensures ∙ c.before.before.if1.false)).0 in
-    let z = image_sized _ a.image_ok_lem in
+    let z = image_sized _ a.image_holds in
     let b = z.blocks in
     let m = z.most in
     let k = a.key24 in

@@ -36,7 +36,7 @@ space-on-requires : tie.Need-space-on-requires
 unfolding capacity_of
 space-on-requires c κs =
     let a = fit c.before.before in
-    let z = image_sized _ a.image_ok_lem in
+    let z = image_sized _ a.image_holds in
     let b = z.blocks in
     let m = z.most in
     let k = a.key24 in

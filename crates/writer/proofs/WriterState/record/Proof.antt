@@ -23,7 +23,7 @@ returns : tie.Need-returns
 returns c = write_refused _ _ _ (rec _) c.before.record-number.ensures c.if1.true
 
 blocks-for-requires : tie.Need-blocks-for-requires
-blocks-for-requires c κs = (sound (rec c.before.before.before.before.before.before.args.bytes.now) (fits c).length_ok_lem).high
+blocks-for-requires c κs = (sound (rec c.before.before.before.before.before.before.args.bytes.now) (fits c).length_holds).high
 
 lay-record-requires : tie.Need-lay-record-requires
 lay-record-requires c κs =
