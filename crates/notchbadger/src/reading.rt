@@ -8,7 +8,7 @@ use reader::{Got, Outcome};
 
 // ---- What crosses.
 #[repr(C)]
-#[derive(Drop)]
+#[derive(Clone, Copy)]
 pub struct NbGot {
     pub outcome: u8,
     pub number: u8,
@@ -17,7 +17,7 @@ pub struct NbGot {
 }
 
 #[repr(C)]
-#[derive(Drop)]
+#[derive(Clone, Copy)]
 pub struct NbPart {
     pub offset: usize,
     pub length: usize,

@@ -9,7 +9,7 @@ use survey::{Spaced, Tally};
 
 // ---- What crosses.
 #[repr(C)]
-#[derive(Drop)]
+#[derive(Clone, Copy)]
 pub struct NbSpaced {
     pub kind: u8,
     pub number: u8,
@@ -18,7 +18,7 @@ pub struct NbSpaced {
 }
 
 #[repr(C)]
-#[derive(Drop)]
+#[derive(Clone, Copy)]
 pub struct NbTally {
     pub number: u8,
     pub records: usize,

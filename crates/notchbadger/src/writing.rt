@@ -11,7 +11,7 @@ use writer::{Reply, WriterState, Wrote};
 
 // ---- What crosses.
 #[repr(C)]
-#[derive(Drop)]
+#[derive(Clone, Copy)]
 pub struct NbState {
     pub id: u32,
     pub recording: u64,
@@ -23,7 +23,7 @@ pub struct NbState {
 }
 
 #[repr(C)]
-#[derive(Drop)]
+#[derive(Clone, Copy)]
 pub struct NbWrote {
     pub state: NbState,
     pub reply: u8,

@@ -1,4 +1,6 @@
 // A state as planes of bits: packing, and the way back.
+#![tactic(auto)]
+
 ghost use Rattle.std.specs.Prelude.{◌≡◌, ◌+◌, ◌%◌, ◌≤◌, ◌<◌, length};
 ghost use Rattle.pi.specs.Permutation.{added};
 ghost use Rattle.planes.specs.Planes.{flipped, bytes_of};
