@@ -1,5 +1,6 @@
 // What every layer does with lent buffers: zero one, copy or add into one, compare two.
 #![tactic(auto)]
+
 ghost use Rattle.std.specs.Prelude.{◌≡◌, min, length, take, replicate};
 ghost use Rattle.laws.specs.Lists.{splice, same};
 ghost use Rattle.laws.specs.Xor.{xor_into};

@@ -6,7 +6,7 @@ use mathlib.Core.Logic.{⊎_elim}
 use Prim.Native.Nat.{ℕ, zero, suc, ◌+◌, ◌-◌, ◌<◌}
 use native.Mathlib.Omega.{arith}
 use lib.Dec.{lit<}
-use lib.ListN.{length, get_or, set, take, drop, replicate, length-take, get_or-append, get_or-eq_default}
+use lib.ListN.{length, set, take, drop, replicate, length-take, get_or-append, get_or-eq_default}
 use lib.Seq.{get_or-take, get_or-drop, get_or-append-add, get_or-set_same, get_or-set_other, set_out}
 use Rattle.laws.specs.Lists.{AllBytes, splice}
 use Rattle.laws.proofs.OrderLaws.{lt_or_ge}

@@ -1,6 +1,7 @@
 // The numbers that a caller can get back, and the sizes and limits of the format: each stands here once. The header's defines are held to
 // this table by ./check (NB_ before the name), and the definitions in specs/ say them again as the pages do, so that a proof fails where
 // the two differ.
+#![tactic(auto)]
 
 // ---- Carried out, and the causes of a refusal.
 pub const DONE: u8 = 0;

@@ -1,16 +1,11 @@
 -- `buffer::add` meets its contract. The invariant of its loop: the first k bytes of `from` are in.
 -- Assumes nothing.
-use mathlib.Core.Path.{◌≡◌, refl, ap, ◌∙◌}
+use mathlib.Core.Path.{◌≡◌}
 use mathlib.Core.List.{List}
-use mathlib.Core.Logic.{⊎_elim}
-use Prim.Native.Nat.{ℕ, ◌-◌, ◌≤◌, ◌<◌, min}
-use native.Mathlib.Omega.{arith}
-use lib.ListN.{length, get_or, length-set, get_or-eq_default}
+use Prim.Native.Nat.{ℕ, ◌-◌, ◌≤◌, min}
+use lib.ListN.{length, get_or}
 use Rattle.laws.specs.Loops.{front}
-use Rattle.laws.specs.Xor.{xor, xor_into}
-use Rattle.laws.proofs.ListLaws.{front_none, front_seen, front_more, front_all, front_rest}
-use Rattle.laws.proofs.OrderLaws.{lt_or_ge}
-use Rattle.laws.proofs.XorLaws.{xor_zero}
+use Rattle.laws.specs.Xor.{xor}
 use Rattle.buffer.proofs.add.Given as goal
 
 unfoldable pub rule : List ℕ → List ℕ → ℕ → ℕ

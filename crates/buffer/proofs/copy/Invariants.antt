@@ -1,15 +1,9 @@
 -- `buffer::copy` meets its contract. The invariant of its loop: the first i bytes of `from` are laid over the front.
 -- Assumes nothing.
-use borrow.Author.Rules.{rules}
-use mathlib.Core.Path.{◌≡◌, refl, sym, ap, ◌∙◌}
-use mathlib.Core.List.{List}
-use Prim.Native.Nat.{ℕ, ◌+◌, ◌≤◌, ◌<◌, ◌-◌}
-use native.Mathlib.Numerals.{add-one}
-use native.Mathlib.Omega.{arith}
-use lib.ListN.{length, get_or, set, take, length-set}
-use lib.Seq.{take-suc, take_all, length-take-le}
+use mathlib.Core.Path.{◌≡◌}
+use Prim.Native.Nat.{◌≤◌, ◌-◌}
+use lib.ListN.{length, take}
 use Rattle.laws.specs.Lists.{splice}
-use Rattle.laws.proofs.SpliceLaws.{splice_nil, splice_store}
 use Rattle.buffer.proofs.copy.Given as goal
 
 abbrev pub invariant-loop-at : goal.invariant-loop-at

@@ -1,14 +1,10 @@
 -- `buffer::same` meets its contract. The invariant of its loop: no difference is gathered exactly if the first i bytes are the same.
 -- Assumes nothing.
-use borrow.Author.Rules.{rules}
-use borrow.Author.Tests.{eq-eqb, ne_eqb}
-use mathlib.Core.Path.{◌≡◌, refl, sym, ap, ◌∙◌}
-use Prim.Native.Nat.{ℕ, ◌≤◌, ◌-◌}
-use native.Mathlib.Omega.{arith}
+use mathlib.Core.Path.{◌≡◌}
+use Prim.Native.Nat.{◌≤◌, ◌-◌}
 use lib.ListN.{length}
 use lib.Dec.{eqb}
-use Rattle.laws.specs.Lists.{same_to, same}
-use Rattle.laws.proofs.SameLaws.{same_none, same_more}
+use Rattle.laws.specs.Lists.{same_to}
 use Rattle.buffer.proofs.same.Given as goal
 
 abbrev pub invariant-loop-k : goal.invariant-loop-k

@@ -1,13 +1,9 @@
 -- `buffer::zero` meets its contract. The invariant of its loop: the first i bytes are zero, the rest stands.
 -- Assumes nothing.
-use borrow.Author.Rules.{rules}
-use borrow.Author.Fill.{fill_more}
-use mathlib.Core.Path.{◌≡◌, refl, ap, ◌∙◌}
-use mathlib.Core.List.{List, ◌++◌, append-nil}
-use Prim.Native.Nat.{ℕ, ◌≤◌, ◌-◌}
-use native.Mathlib.Omega.{arith}
-use lib.ListN.{length, drop, set, replicate, length-set}
-use lib.Seq.{drop-length}
+use mathlib.Core.Path.{◌≡◌}
+use mathlib.Core.List.{◌++◌}
+use Prim.Native.Nat.{◌≤◌, ◌-◌}
+use lib.ListN.{length, drop, replicate}
 use Rattle.buffer.proofs.zero.Given as goal
 
 abbrev pub invariant-loop-i : goal.invariant-loop-i
