@@ -1,4 +1,6 @@
 // The substitution and the shift on planes of bits, by gates: no table is indexed.
+#![tactic(auto)]
+
 ghost use Rattle.std.specs.Prelude.{◌≡◌, ◌%◌, ◌<◌, length};
 ghost use Rattle.pi.specs.Permutation.{substitute, shift, substitute⁻, shift⁻};
 ghost use Rattle.planes.specs.Planes.{bit, flipped, plus};

@@ -1,12 +1,14 @@
 // The miniboxes on planes of bits, without a NOT: a box is taken as x to B(x + a) + B(a), which sends 0 to 0.
 // With a byte a of 62 these translations fit: S(62) = D5, and 03 times D5 is 62 again, so that a state whose
 // bytes all are the true ones plus 62 stays so through substitute, shift, mix and the constants.
+#![tactic(auto)]
+
 ghost use Rattle.std.specs.Prelude.{◌≡◌, ◌%◌, get_or};
 ghost use Rattle.laws.specs.Xor.{xor};
 ghost use Rattle.pi.specs.Table.{E, E⁻, R};
 ghost use Rattle.gates.specs.Gates.{Same16, half, Minibox};
 
-#[derive(Drop)]
+#[derive(Clone, Copy)]
 pub struct Four {
     pub p0: u16,
     pub p1: u16,

@@ -1,5 +1,7 @@
 // The permutation of STRIBOBr2, its inverse, one round of either, and the rule of its table. π itself goes by planes (`rounds`); a round with a
 // key of the caller's, by bytes. No table is indexed and no branch taken by what a state, a key or a byte holds.
+#![tactic(auto)]
+
 ghost use Rattle.std.specs.Prelude.{◌≡◌, ◌+◌, ◌*◌, ◌/◌, ◌%◌, ◌≤◌, ◌<◌, length};
 ghost use Rattle.laws.specs.Lists.{listed, splice};
 ghost use Rattle.pi.specs.Table.{S, S⁻};

@@ -1,5 +1,7 @@
 // The rounds of π on planes of bits: no table is indexed and no branch taken by what the state holds. The planes hold the state plus 62, on the
 // way back plus 5D: then the circuits need no NOT.
+#![tactic(auto)]
+
 ghost use Rattle.std.specs.Prelude.{◌≡◌, ◌+◌, ◌*◌, ◌<◌};
 ghost use Rattle.pi.specs.Permutation.{substitute, shift, mix, added, constant, π, Permuted, substitute⁻, shift⁻, mix⁻, π⁻};
 ghost use Rattle.pi.proofs.StateLaws.{Full};
