@@ -1,4 +1,6 @@
 // The mix and its inverse on planes, by turns of words.
+#![tactic(auto)]
+
 ghost use Rattle.std.specs.Prelude.{◌≡◌, ◌<◌};
 ghost use Rattle.pi.specs.Permutation.{mix, mix⁻};
 ghost use Rattle.planes.specs.Planes.{flipped, bytes_of};
