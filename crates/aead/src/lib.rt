@@ -1,4 +1,6 @@
 // Sealing and opening: STRIBOBr2.
+#![tactic(auto)]
+
 ghost use Rattle.std.specs.Prelude.{◌≡◌, ◌+◌, ◌≤◌, length, replicate};
 ghost use Rattle.laws.specs.Choose.{pick};
 ghost use Rattle.aead.specs.Sealing.{keyed, sealed_from, opened_from, fits_from, sized, limited, Sealed, Opened};

@@ -1,4 +1,6 @@
 // One block of a cartridge at its place: sealed at the front of a lent part, opened straight into a lent buffer.
+#![tactic(auto)]
+
 ghost use Rattle.std.specs.Prelude.{◌≡◌, [], ◌++◌, ◌≤◌, ◌<◌, length, drop};
 ghost use Rattle.laws.specs.Lists.{splice};
 ghost use Rattle.aead.specs.Sealing.{sealed};
@@ -19,7 +21,7 @@ const SMALLEST: usize = IMAGE_FEWEST * BLOCK_BYTES;
 const LARGEST: usize = IMAGE_MOST * BLOCK_BYTES;
 
 // What is sealed: for a record's blocks byte 5, whether it is the record's last.
-#[derive(Drop)]
+#[derive(Clone, Copy)]
 pub enum Kind {
     First(bool),
     More(bool),
@@ -28,7 +30,7 @@ pub enum Kind {
 }
 
 // What opens at a place: for a record's blocks byte 5 and the bytes used. Refused, with its number, nothing was opened.
-#[derive(Drop)]
+#[derive(Clone, Copy)]
 pub enum Seen {
     Shut,
     First(bool, usize),

@@ -12,7 +12,7 @@ use Rattle.block.specs.Content.{Content, shut, more, head, first, mark, eod}
 use Rattle.block.specs.Image.{View, capacity_of, view}
 use Rattle.block.proofs.ViewLaws.{Sized, sized_most, view_sized}
 use Rattle.reader.specs.declared.Got.{Got}
-use Rattle.reader.specs.Walk.{Told, Answer, inside, gather, between, read_at}
+use Rattle.reader.specs.Walk.{Told, inside, gather, between, read_at}
 use Rattle.reader.specs.Reading.{record_of, read_number, read_answer, filled, Read}
 use Rattle.reader.proofs.ImageTests.{readable}
 use Rattle.reader.proofs.BufferLaws.{drop_splice}

@@ -1,4 +1,6 @@
 // The reader: read, the record's part, the raw look.
+#![tactic(auto)]
+
 ghost use Rattle.std.specs.Prelude.{◌≡◌, ◌+◌, ◌-◌, ◌*◌, ◌≤◌, ◌<◌, length, replicate};
 ghost use Rattle.block.specs.Calls.{seen_of};
 ghost use Rattle.block.specs.Content.{bytes_of};
@@ -13,7 +15,7 @@ use numbers::{
     WRONG_LENGTH,
 };
 
-#[derive(Drop)]
+#[derive(Clone, Copy)]
 pub enum Outcome {
     Record(usize),
     Mark,
@@ -24,7 +26,7 @@ pub enum Outcome {
     Refused(u8),
 }
 
-#[derive(Drop)]
+#[derive(Clone, Copy)]
 pub struct Got {
     pub outcome: Outcome,
     pub next: usize,

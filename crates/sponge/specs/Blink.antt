@@ -1,5 +1,5 @@
 -- The four BLNK block operations (FORMAT, "Block operations"; the paper, 1.2.1), by groups of 32 bytes; what a call promises.
-use Rattle.std.specs.Prelude.{◌≡◌, Bool, true, false, ◌&&◌, List, [], ◌++◌, ℕ, zero, suc, ◌-◌, ◌*◌, ◌/◌, eqb, leb, ltb, length, get_or, set, take, drop}
+use Rattle.std.specs.Prelude.{◌≡◌, ◌&&◌, List, [], ◌++◌, ℕ, zero, suc, ◌-◌, ◌*◌, ◌/◌, eqb, leb, ltb, length, get_or, set, take, drop}
 use Rattle.laws.specs.Choose.{pick, first_of}
 use Rattle.laws.specs.Lists.{splice}
 use Rattle.laws.specs.Xor.{xor}

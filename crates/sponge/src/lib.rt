@@ -1,4 +1,6 @@
 // The four BLNK block operations.
+#![tactic(auto)]
+
 ghost use Rattle.std.specs.Prelude.{◌≡◌, ◌-◌, ◌/◌, ◌≤◌, ◌<◌, length, take};
 ghost use Rattle.laws.specs.Xor.{xor};
 ghost use Rattle.pi.specs.Permutation.{π, added};
@@ -8,7 +10,7 @@ ghost use Rattle.sponge.specs.Ways.{op_of, Worked, RanAll};
 use numbers::{ABOVE_LIMIT, DONE, OPERATION_MAX, RATE_BYTES, STATE_BYTES, WRONG_LENGTH};
 
 // The operations that give bytes.
-#[derive(Drop)]
+#[derive(Clone, Copy)]
 enum Way {
     Get,
     Enc,

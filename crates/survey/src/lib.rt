@@ -1,4 +1,6 @@
 // What reads on without a receiving buffer: spacing over file marks, the report.
+#![tactic(auto)]
+
 ghost use Rattle.std.specs.Prelude.{List, ◌≡◌, ℕ, ◌+◌, ◌-◌, ◌*◌, ◌≤◌, ◌<◌, min, length};
 ghost use Rattle.block.specs.Calls.{seen_of};
 ghost use Rattle.block.specs.Image.{view};
@@ -9,14 +11,14 @@ ghost use Rattle.survey.specs.Steps.{Lent, told_between, told_inside, passed_ins
 
 use numbers::{BLOCK_BYTES, BLOCK_PAYLOAD, DONE, RECORD_BLOCKS, UNLAWFUL};
 
-#[derive(Drop)]
+#[derive(Clone, Copy)]
 pub enum Spaced {
     At(usize),
     Short(usize, usize),
     Refused(u8, usize),
 }
 
-#[derive(Drop)]
+#[derive(Clone, Copy)]
 pub struct Tally {
     pub number: u8,
     pub records: usize,
@@ -176,7 +178,7 @@ fn passed_inside(seen: block::Seen) -> usize
     }
 }
 
-#[derive(Drop)]
+#[derive(Clone, Copy)]
 struct Step {
     told: u8,
     next: usize,

@@ -1,4 +1,6 @@
 // The writer: a state by value that comes back from each call, an image that is lent.
+#![tactic(auto)]
+
 ghost use Rattle.std.specs.Prelude.{◌≡◌, true, [], ◌+◌, ◌*◌, ◌≤◌, ◌<◌, length};
 ghost use Rattle.block.specs.Format.{seal_block};
 ghost use Rattle.block.specs.Image.{set_block, lay};
@@ -11,7 +13,7 @@ use numbers::{
     WRONG_RECORD, WRONG_ZONE,
 };
 
-#[derive(Drop)]
+#[derive(Clone, Copy)]
 pub struct WriterState {
     pub id: u32,
     pub recording: u64,
@@ -22,14 +24,14 @@ pub struct WriterState {
     pub marks: usize,
 }
 
-#[derive(Drop)]
+#[derive(Clone, Copy)]
 pub enum Reply {
     Plain,
     Warned,
     Refused(u8),
 }
 
-#[derive(Drop)]
+#[derive(Clone, Copy)]
 pub struct Wrote {
     pub state: WriterState,
     pub reply: Reply,
