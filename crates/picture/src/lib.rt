@@ -1,4 +1,6 @@
 // The cartridge as a picture, one character a block: what a walk says of each.
+#![tactic(auto)]
+
 ghost use Rattle.std.specs.Prelude.{◌≡◌, ◌≤◌, ◌<◌, length};
 ghost use Rattle.laws.specs.Choose.{pick};
 ghost use Rattle.block.specs.Image.{capacity_of, view};

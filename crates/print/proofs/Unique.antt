@@ -1,4 +1,4 @@
--- `print::parse` promises one result. (The other public functions write to standard output and return nothing.)
+-- `print::parse` promises one result. (The other public functions write, and answer only whether they could.)
 -- Assumes nothing.
 use mathlib.Core.Path.{◌≡◌, sym, ◌∙◌}
 use contract.Lifetimes.{Lfts}

@@ -1,51 +1,52 @@
-// What the programs share: text, numbers and a writer's reply on standard output, and a decimal number as it stands in an argument.
+// What the programs share: text, numbers and a writer's reply, written to what the caller gives, and a decimal number as it stands in an argument.
+#![tactic(auto)]
+
 ghost use Rattle.std.specs.Prelude.{◌≡◌, ◌<◌};
 ghost use Rattle.print.specs.Parsing.{digit_behind, spelled_with, spelled, Within};
 
-use libc::STDOUT_FILENO;
 use writer::Reply;
 
 const DIGITS: [u8; 16] = *b"0123456789ABCDEF";
 
-// ---- Writing. Each answers whether all of it could be written.
-pub fn say(text: &[u8]) -> bool {
-    io::write_all(STDOUT_FILENO, text)
+// ---- Writing, to what is given first. Each answers whether all of it could be written.
+pub fn say<P: Print>(out: &P, text: &[u8]) -> bool {
+    out.write_all(text).is_ok()
 }
 
-pub fn line_end() -> bool {
-    say(b"\n")
+pub fn line_end<P: Print>(out: &P) -> bool {
+    say(out, b"\n")
 }
 
-pub fn decimal(n: u64) -> bool {
-    io::print_decimal(STDOUT_FILENO, n)
+pub fn decimal<P: Print>(out: &P, n: u64) -> bool {
+    out.print(n).is_ok()
 }
 
 // A text and the number behind it.
-pub fn named(name: &[u8], n: u64) -> bool {
-    if say(name) {
-        return decimal(n);
+pub fn named<P: Print>(out: &P, name: &[u8], n: u64) -> bool {
+    if say(out, name) {
+        return decimal(out, n);
     }
     false
 }
 
 // A number behind a space.
-pub fn spaced(n: u64) -> bool {
-    named(b" ", n)
+pub fn spaced<P: Print>(out: &P, n: u64) -> bool {
+    named(out, b" ", n)
 }
 
 fn digit(n: u8) -> u8 {
     DIGITS[(n % 16) as usize]
 }
 
-pub fn hex_byte(b: u8) -> bool {
+pub fn hex_byte<P: Print>(out: &P, b: u8) -> bool {
     let pair = [digit(b / 16), digit(b)];
-    say(&pair)
+    say(out, &pair)
 }
 
-pub fn hex(bytes: &[u8]) -> bool {
+pub fn hex<P: Print>(out: &P, bytes: &[u8]) -> bool {
     let mut i: usize = 0;
     while i < bytes.len() {
-        if !hex_byte(bytes[i]) {
+        if !hex_byte(out, bytes[i]) {
             return false;
         }
         i += 1;
@@ -54,17 +55,17 @@ pub fn hex(bytes: &[u8]) -> bool {
 }
 
 // The result of a writer's call, as a line ends with it.
-pub fn result(reply: Reply) -> bool {
+pub fn result<P: Print>(out: &P, reply: Reply) -> bool {
     match reply {
-        Reply::Plain => say(b" plain\n"),
-        Reply::Warned => say(b" warned\n"),
-        Reply::Refused(n) => refused(n),
+        Reply::Plain => say(out, b" plain\n"),
+        Reply::Warned => say(out, b" warned\n"),
+        Reply::Refused(n) => refused(out, n),
     }
 }
 
-fn refused(n: u8) -> bool {
-    if named(b" refused ", n as u64) {
-        return line_end();
+fn refused<P: Print>(out: &P, n: u8) -> bool {
+    if named(out, b" refused ", n as u64) {
+        return line_end(out);
     }
     false
 }
@@ -96,6 +97,7 @@ pub fn parse(text: &[u8], most: u64) -> Parsed
 }
 
 // What is spelled with c behind it.
+#[tactic(auto, unfolding(crate::specs::Parsing::spelled_with))]
 fn longer(parsed: Parsed, c: u8, most: u64) -> Parsed
     ensures says { result ≡ spelled_with most parsed c }
     ensures within { Within most result }
@@ -120,6 +122,7 @@ fn wide(x: u8) -> u64
 }
 
 // 10 n + d, where that is not above `most`.
+#[tactic(auto, unfolding(crate::specs::Parsing::digit_behind))]
 fn grown(n: u64, digit: u8, most: u64) -> Parsed
     ensures says { result ≡ digit_behind most n digit }
     ensures within { Within most result }

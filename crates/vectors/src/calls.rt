@@ -5,8 +5,8 @@
 ghost use Rattle.std.specs.Prelude.{◌≡◌, ◌≤◌, ◌<◌, length};
 
 use crate::show;
-use libc::STDIN_FILENO;
 use print::Parsed;
+use std::io::Read;
 
 // No number of five digits is above it.
 const ROOM: usize = 100000;
@@ -32,10 +32,10 @@ fn field(line: &[u8], k: usize) -> usize
 }
 
 // The line, and the number that its call gave.
-fn answer(line: &[u8], number: u8) {
-    print::say(line);
-    print::named(b" = ", number as u64);
-    print::line_end();
+fn answer<P: Print>(rt: &P, line: &[u8], number: u8) {
+    print::say(rt, line);
+    print::named(rt, b" = ", number as u64);
+    print::line_end(rt);
 }
 
 // ---- Buffers.
@@ -71,31 +71,39 @@ fn state_call(letter: u8, state: &mut [u8], text: &[u8], out: &mut [u8], domain:
     }
 }
 
-fn show_out(out: &[u8]) {
-    show::buffer(b"out ", out);
+fn show_out<P: Print>(rt: &P, out: &[u8]) {
+    show::buffer(rt, b"out ", out);
 }
 
-fn show_state(letter: u8, state: &[u8], out: &[u8]) {
-    show::buffer(b"state ", state);
+fn show_state<P: Print>(rt: &P, letter: u8, state: &[u8], out: &[u8]) {
+    show::buffer(rt, b"state ", state);
     match letter {
         b'p' | b'q' | b'u' => {}
-        _ => show_out(out),
+        _ => show_out(rt, out),
     }
 }
 
-fn on_state(line: &[u8], letter: u8, state: &mut [u8], text: &[u8], out: &mut [u8], domain: u8) {
+fn on_state<P: Print>(
+    rt: &P,
+    line: &[u8],
+    letter: u8,
+    state: &mut [u8],
+    text: &[u8],
+    out: &mut [u8],
+    domain: u8,
+) {
     let number = state_call(letter, state, text, out, domain);
-    answer(line, number);
-    show_state(letter, state, out);
+    answer(rt, line, number);
+    show_state(rt, letter, state, out);
 }
 
-fn with_state(line: &[u8], letter: u8, text: &[u8], out: &mut [u8])
+fn with_state<P: Print>(rt: &P, line: &[u8], letter: u8, text: &[u8], out: &mut [u8])
     requires { length line.now ≡ 37 }
 {
     let a = field(line, 0);
     let domain = (field(line, 2) % 256) as u8;
     let mut state = filled(1);
-    on_state(line, letter, &mut state[0..a], text, out, domain);
+    on_state(rt, line, letter, &mut state[0..a], text, out, domain);
 }
 
 // The length of the receiving buffer, which a get has in the field of the others' text.
@@ -109,14 +117,14 @@ fn out_of(line: &[u8], letter: u8) -> usize
     field(line, 3)
 }
 
-fn call_on_state(line: &[u8], letter: u8)
+fn call_on_state<P: Print>(rt: &P, line: &[u8], letter: u8)
     requires { length line.now ≡ 37 }
 {
     let b = field(line, 1);
     let d = out_of(line, letter);
     let text = filled(5);
     let mut out = filled(6);
-    with_state(line, letter, &text[0..b], &mut out[0..d]);
+    with_state(rt, line, letter, &text[0..b], &mut out[0..d]);
 }
 
 // ---- Sealing and opening.
@@ -186,12 +194,12 @@ fn seal_of(line: &[u8], text: &[u8], out: &mut [u8]) -> u8
     )
 }
 
-fn on_sealing(line: &[u8], text: &[u8], out: &mut [u8])
+fn on_sealing<P: Print>(rt: &P, line: &[u8], text: &[u8], out: &mut [u8])
     requires { length line.now ≡ 37 }
 {
     let number = seal_of(line, text, out);
-    answer(line, number);
-    show_out(out);
+    answer(rt, line, number);
+    show_out(rt, out);
 }
 
 // What an opening is given is sealed first.
@@ -203,49 +211,50 @@ fn made_ready(line: &[u8], text: &mut [u8])
     }
 }
 
-fn with_text(line: &[u8], text: &mut [u8], out: &mut [u8])
+fn with_text<P: Print>(rt: &P, line: &[u8], text: &mut [u8], out: &mut [u8])
     requires { (length line.now ≡ 37) × (length text.old < 100000) }
 {
     made_ready(line, text);
-    on_sealing(line, text, out);
+    on_sealing(rt, line, text, out);
 }
 
-fn call_sealing(line: &[u8])
+fn call_sealing<P: Print>(rt: &P, line: &[u8])
     requires { length line.now ≡ 37 }
 {
     let d = field(line, 3);
     let e = field(line, 4);
     let mut text = filled(5);
     let mut out = filled(6);
-    with_text(line, &mut text[0..d], &mut out[0..e]);
+    with_text(rt, line, &mut text[0..d], &mut out[0..e]);
 }
 
 // ---- The input.
-fn serve(line: &[u8])
+fn serve<P: Print>(rt: &P, line: &[u8])
     requires { length line.now ≡ 37 }
 {
     let letter = letter_of(line);
     match letter {
-        b's' => call_sealing(line),
-        b'o' => call_sealing(line),
-        _ => call_on_state(line, letter),
+        b's' => call_sealing(rt, line),
+        b'o' => call_sealing(rt, line),
+        _ => call_on_state(rt, line, letter),
     }
 }
 
 // Serves the next line, where there is one.
-fn serve_next() -> bool {
+fn serve_next<P: Print, R: Read>(rt: &P, input: &mut R) -> bool {
     let mut line = [0u8; 38];
-    if io::read_full(STDIN_FILENO, &mut line) < 38 {
+    if input.read_exact(&mut line).is_err() {
         return false;
     }
-    serve(&line[0..37]);
+    serve(rt, &line[0..37]);
     true
 }
 
 // The lines of the input, 1,000 at most.
-pub fn all() {
+pub fn all<R: Print + Input>(rt: &R) {
+    let mut input = rt.reader();
     for i in 0usize..1000 {
-        if !serve_next() {
+        if !serve_next(rt, &mut input) {
             return;
         }
     }

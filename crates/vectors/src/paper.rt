@@ -1,16 +1,16 @@
 // The paper's own tables and vectors: 1.1 by its miniboxes, 1.3.1 round by round, 1.3.2 sealed and traced.
 use crate::show;
 
-fn show_table() {
+fn show_table<P: Print>(rt: &P) {
     for k in 0usize..256 {
-        show_entry((k % 256) as u8);
+        show_entry(rt, (k % 256) as u8);
     }
 }
 
-fn show_entry(k: u8) {
-    print::hex_byte(permutation::minibox(k));
+fn show_entry<P: Print>(rt: &P, k: u8) {
+    print::hex_byte(rt, permutation::minibox(k));
     if k % 16 == 15 {
-        print::line_end();
+        print::line_end(rt);
     }
 }
 
@@ -31,9 +31,9 @@ fn constant(r: u8) -> [u8; 64] {
     key
 }
 
-fn show_state(name: &[u8], n: u8, state: &[u8; 64]) {
-    print::named(name, n as u64);
-    show::buffer(b" ", state);
+fn show_state<P: Print>(rt: &P, name: &[u8], n: u8, state: &[u8; 64]) {
+    print::named(rt, name, n as u64);
+    show::buffer(rt, b" ", state);
 }
 
 // The rounds that lie behind the state after k steps.
@@ -49,29 +49,29 @@ fn step(state: &mut [u8; 64], k: u8) {
     }
 }
 
-fn show_step(state: &mut [u8; 64], k: u8) {
+fn show_step<P: Print>(rt: &P, state: &mut [u8; 64], k: u8) {
     step(state, k % 24);
-    show_state(b"x", rounds(k % 24 + 1), state);
+    show_state(rt, b"x", rounds(k % 24 + 1), state);
 }
 
 // Twelve steps from this one on.
-fn show_steps(state: &mut [u8; 64], from: u8) {
+fn show_steps<P: Print>(rt: &P, state: &mut [u8; 64], from: u8) {
     for k in 0u8..12 {
-        show_step(state, from % 24 + k);
+        show_step(rt, state, from % 24 + k);
     }
 }
 
-fn show_first(title: &[u8], n: u8, state: &[u8; 64]) {
-    print::say(title);
-    show_state(b"x", n, state);
+fn show_first<P: Print>(rt: &P, title: &[u8], n: u8, state: &[u8; 64]) {
+    print::say(rt, title);
+    show_state(rt, b"x", n, state);
 }
 
-fn show_rounds() {
+fn show_rounds<P: Print>(rt: &P) {
     let mut state = X0;
-    show_first(b"# 1.3.1 forward\n", 0, &state);
-    show_steps(&mut state, 0);
-    show_first(b"# 1.3.1 back\n", 12, &state);
-    show_steps(&mut state, 12);
+    show_first(rt, b"# 1.3.1 forward\n", 0, &state);
+    show_steps(rt, &mut state, 0);
+    show_first(rt, b"# 1.3.1 back\n", 12, &state);
+    show_steps(rt, &mut state, 12);
 }
 
 // ---- 1.3.2: what is sealed, and the trace found from its end, by undoing π and what was added before it.
@@ -83,10 +83,10 @@ const DATA: [u8; 32] = *b"AAD Test Vector Exact Block 32 B";
 
 const MESSAGE: [u8; 38] = *b"2 Block Test Vector for stribob192r2d2";
 
-fn show_sealed(key: &[u8], nonce: &[u8], data: &[u8], message: &[u8]) {
+fn show_sealed<P: Print>(rt: &P, key: &[u8], nonce: &[u8], data: &[u8], message: &[u8]) {
     let mut sealed = [0u8; 54];
     aead::seal(key, nonce, data, message, &mut sealed);
-    show::buffer(b"# 1.3.2 sealed\n", &sealed);
+    show::buffer(rt, b"# 1.3.2 sealed\n", &sealed);
 }
 
 // What step n adds: its bytes, 01 behind them where it closes an operation, and at 32 the domain byte and what closes.
@@ -101,16 +101,16 @@ fn added(n: u8) -> [u8; 33] {
 }
 
 // From π's output at step n to that of the step before.
-fn step_back(state: &mut [u8; 64], n: u8) {
-    show_state(b"out ", n, state);
+fn step_back<P: Print>(rt: &P, state: &mut [u8; 64], n: u8) {
+    show_state(rt, b"out ", n, state);
     permutation::permute_back(state);
-    show_state(b"Block ", n, state);
+    show_state(rt, b"Block ", n, state);
     buffer::add(state, &added(n));
 }
 
-fn steps_back(state: &mut [u8; 64]) {
+fn steps_back<P: Print>(rt: &P, state: &mut [u8; 64]) {
     for k in 0u8..5 {
-        step_back(state, 4 - k);
+        step_back(rt, state, 4 - k);
     }
 }
 
@@ -129,16 +129,16 @@ fn sealed_state(key: &[u8], nonce: &[u8], data: &[u8], message: &[u8]) -> [u8; 6
     state
 }
 
-fn show_sealing(key: &[u8], nonce: &[u8], data: &[u8], message: &[u8]) {
-    show_sealed(key, nonce, data, message);
-    print::say(b"# 1.3.2 trace, from its end\n");
+fn show_sealing<P: Print>(rt: &P, key: &[u8], nonce: &[u8], data: &[u8], message: &[u8]) {
+    show_sealed(rt, key, nonce, data, message);
+    print::say(rt, b"# 1.3.2 trace, from its end\n");
     let mut state = sealed_state(key, nonce, data, message);
-    steps_back(&mut state);
+    steps_back(rt, &mut state);
 }
 
-pub fn all() {
-    print::say(b"# table 1.1 by the miniboxes\n");
-    show_table();
-    show_rounds();
-    show_sealing(&KEY, &NONCE, &DATA, &MESSAGE);
+pub fn all<P: Print>(rt: &P) {
+    print::say(rt, b"# table 1.1 by the miniboxes\n");
+    show_table(rt);
+    show_rounds(rt);
+    show_sealing(rt, &KEY, &NONCE, &DATA, &MESSAGE);
 }

@@ -18,39 +18,39 @@ fn wide(x: u8) -> u64
     x as u64
 }
 
-fn show_sum(h: u64) {
-    print::hex_byte((h / 16777216 % 256) as u8);
-    print::hex_byte((h / 65536 % 256) as u8);
-    print::hex_byte((h / 256 % 256) as u8);
-    print::hex_byte((h % 256) as u8);
+fn show_sum<P: Print>(rt: &P, h: u64) {
+    print::hex_byte(rt, (h / 16777216 % 256) as u8);
+    print::hex_byte(rt, (h / 65536 % 256) as u8);
+    print::hex_byte(rt, (h / 256 % 256) as u8);
+    print::hex_byte(rt, (h % 256) as u8);
 }
 
-fn show_last(bytes: &[u8]) {
-    print::say(b" ");
-    print::hex(bytes);
-    print::say(b" ");
+fn show_last<P: Print>(rt: &P, bytes: &[u8]) {
+    print::say(rt, b" ");
+    print::hex(rt, bytes);
+    print::say(rt, b" ");
 }
 
 // The first and the last 16 bytes, and the sum.
-fn show_ends(bytes: &[u8])
+fn show_ends<P: Print>(rt: &P, bytes: &[u8])
     requires { 80 < length bytes.now }
 {
     let n = bytes.len();
-    print::hex(&bytes[0..16]);
-    show_last(&bytes[n - 16..]);
-    show_sum(sum_of(bytes));
+    print::hex(rt, &bytes[0..16]);
+    show_last(rt, &bytes[n - 16..]);
+    show_sum(rt, sum_of(bytes));
 }
 
-fn show_bytes(bytes: &[u8]) {
+fn show_bytes<P: Print>(rt: &P, bytes: &[u8]) {
     if 80 < bytes.len() {
-        return show_ends(bytes);
+        return show_ends(rt, bytes);
     }
-    print::hex(bytes);
+    print::hex(rt, bytes);
 }
 
 // A buffer by its name: whole up to 80 bytes, else its ends and its sum.
-pub fn buffer(name: &[u8], bytes: &[u8]) {
-    print::say(name);
-    show_bytes(bytes);
-    print::line_end();
+pub fn buffer<P: Print>(rt: &P, name: &[u8], bytes: &[u8]) {
+    print::say(rt, name);
+    show_bytes(rt, bytes);
+    print::line_end(rt);
 }

@@ -1,5 +1,7 @@
 // walk IMAGE KEY ID RECORDING: what a support engineer runs on a customer's image. It prints a picture of the cartridge, the walk, a line an
-// answer, the report, and what to do; programs/walk.c ends with what `walk_run` answers.
+// answer, the report, and what to do; the program walker ends with what `walk_run` answers.
+#![tactic(auto)]
+
 mod input;
 
 ghost use Rattle.std.specs.Prelude.{◌≡◌};
@@ -10,7 +12,11 @@ use input::Loaded;
 use numbers::{BLOCK_BYTES, DONE, IMAGE_MOST};
 use page::complaints;
 use page::complaints::KEY_SHOWN;
+use page::output::Output;
 use print::Parsed;
+use std::env::Env;
+use std::io::Input;
+use std::rt::Files;
 use survey::Tally;
 
 // ---- What the program ends with.
@@ -43,19 +49,27 @@ fn status(tally: Tally) -> u8
 }
 
 // ---- The run.
-fn serve(key: &[u8], id: u32, recording: u64, image: &[u8]) -> u8
+fn serve<R: Env + Print, E: Print>(
+    rt: &R,
+    err: &E,
+    key: &[u8],
+    id: u32,
+    recording: u64,
+    image: &[u8],
+) -> u8
     ensures { Ends (report_of key.now id recording image.now) result }
 {
     let tally = survey::report(key, id, recording, image);
     if tally.number != DONE {
-        complaints::refused(tally.number, key, image.len());
+        complaints::refused(rt, err, tally.number, key, image.len());
         return NOT_DONE;
     }
     let ends = status(tally);
-    if page::tell(key, id, recording, image, tally, ends == CLEAN) {
+    let out = Output::new(rt);
+    if page::tell(&out, key, id, recording, image, tally, ends == CLEAN) {
         return ends;
     }
-    complaints::output();
+    complaints::output(err, out.failure());
     NOT_DONE
 }
 
@@ -64,64 +78,76 @@ const IMAGE_ROOM: usize = IMAGE_MOST * BLOCK_BYTES + 1;
 
 const KEY_ROOM: usize = KEY_SHOWN + 1;
 
-fn with_image(id: u32, recording: u64, image: &[u8]) -> u8 {
+fn with_image<R: Env + Files + Print, E: Print>(
+    rt: &R,
+    err: &E,
+    id: u32,
+    recording: u64,
+    image: &[u8],
+) -> u8 {
     let mut key = [0u8; KEY_ROOM];
-    match input::load_key(&mut key) {
-        Loaded::Bytes(n) => serve(&key[0..n], id, recording, image),
+    match input::load_key(rt, err, &mut key) {
+        Loaded::Bytes(n) => serve(rt, err, &key[0..n], id, recording, image),
         Loaded::Failed => NOT_DONE,
     }
 }
 
-fn with_numbers(id: u32, recording: u64) -> u8 {
+fn with_numbers<R: Env + Files + Input + Print, E: Print>(
+    rt: &R,
+    err: &E,
+    id: u32,
+    recording: u64,
+) -> u8 {
     let mut image = [0u8; IMAGE_ROOM];
-    match input::load_image(&mut image) {
-        Loaded::Bytes(n) => with_image(id, recording, &image[0..n]),
+    match input::load_image(rt, err, &mut image) {
+        Loaded::Bytes(n) => with_image(rt, err, id, recording, &image[0..n]),
         Loaded::Failed => NOT_DONE,
     }
 }
 
-fn wrong_recording(wrong: &[u8]) -> u8 {
-    complaints::wrong_recording(wrong);
+fn wrong_recording<R: Env, E: Print>(rt: &R, err: &E, wrong: &[u8]) -> u8 {
+    complaints::wrong_recording(rt, err, wrong);
     NOT_DONE
 }
 
-fn wrong_id(wrong: &[u8]) -> u8 {
-    complaints::wrong_id(wrong);
+fn wrong_id<R: Env, E: Print>(rt: &R, err: &E, wrong: &[u8]) -> u8 {
+    complaints::wrong_id(rt, err, wrong);
     NOT_DONE
 }
 
-fn with_id(id: u32) -> u8 {
-    match input::argument(4, 18446744073709551615) {
-        Parsed::Is(recording) => with_numbers(id, recording),
-        Parsed::Above => wrong_recording(b"\" is too large"),
-        Parsed::Not => wrong_recording(b"\" is not a decimal number"),
+fn with_id<R: Env + Files + Input + Print, E: Print>(rt: &R, err: &E, id: u32) -> u8 {
+    match input::argument(rt, 4, 18446744073709551615) {
+        Parsed::Is(recording) => with_numbers(rt, err, id, recording),
+        Parsed::Above => wrong_recording(rt, err, b"\" is too large"),
+        Parsed::Not => wrong_recording(rt, err, b"\" is not a decimal number"),
     }
 }
 
-fn with_arguments() -> u8 {
-    match input::argument(3, 4294967295) {
-        Parsed::Is(id) => with_id(id as u32),
-        Parsed::Above => wrong_id(b"\" is too large"),
-        Parsed::Not => wrong_id(b"\" is not a decimal number"),
+fn with_arguments<R: Env + Files + Input + Print, E: Print>(rt: &R, err: &E) -> u8 {
+    match input::argument(rt, 3, 4294967295) {
+        Parsed::Is(id) => with_id(rt, err, id as u32),
+        Parsed::Above => wrong_id(rt, err, b"\" is too large"),
+        Parsed::Not => wrong_id(rt, err, b"\" is not a decimal number"),
     }
 }
 
-fn help() -> u8 {
-    if page::help() {
+fn help<P: Print, E: Print>(rt: &P, err: &E) -> u8 {
+    let out = Output::new(rt);
+    if page::help(&out) {
         return CLEAN;
     }
-    complaints::output();
+    complaints::output(err, out.failure());
     NOT_DONE
 }
 
-#[unsafe(no_mangle)]
-pub extern "C" fn walk_run() -> u8 {
-    if input::wants_help() {
-        return help();
+// The arguments, the files, standard input and standard output are `rt`'s; `err` is standard error.
+pub fn walk_run<R: Env + Files + Input + Print, E: Print>(rt: &R, err: &E) -> u8 {
+    if input::wants_help(rt) {
+        return help(rt, err);
     }
-    if os::arg_count() == 5 {
-        return with_arguments();
+    if input::are_four(rt) {
+        return with_arguments(rt, err);
     }
-    complaints::usage();
+    complaints::usage(err);
     NOT_DONE
 }

@@ -11,14 +11,7 @@ use Rattle.laws.proofs.SpliceLaws.{splice_nil, fill_step}
 use Rattle.reader.specs.declared.Outcome.{Outcome}
 use Rattle.picture.specs.Picture.{glyph_of}
 use Rattle.picture.specs.Steps.{painted}
-use Rattle.picture.proofs.paint.Statement.{statement}
-use Rattle.picture.proofs.paint.Tie as tie
-
-abbrev invariant-loop : tie.invariant-loop
-invariant-loop out₀ outcome p q b₀ out b = (p ≤ b) × (b ≤ q) × (length out ≡ length out₀) × (out ≡ painted outcome p b out₀)
-
-abbrev decreases-loop : tie.decreases-loop
-decreases-loop out₀ outcome p q b₀ out b = q - b
+use Rattle.picture.proofs.paint.Goals as goal
 
 -- no block yet, and one more
 none : (o : Outcome) (p : ℕ) (out : List ℕ) → out ≡ painted o p p out
@@ -36,41 +29,34 @@ more o p b x out out₀ h k g e =
     (fill_step (λ j. listed p j (glyph_of o p)) (glyph_of o p b) i p b out out₀ (length_listed p i (glyph_of o p))
     (rw m at (listed_snoc p i (glyph_of o p))) m k e)
 
-loop-holds : tie.Need-loop-init invariant-loop decreases-loop
-loop-holds c = (omega arith, omega arith, refl, none _ _ _)
+pub loop-b-init : goal.loop-b-init
+loop-b-init c = (omega arith, omega arith, refl, none _ _ _)
 
-glyph-requires : tie.Need-glyph-requires invariant-loop decreases-loop
-glyph-requires c κs = tt
+pub bounds-out-b : goal.bounds-out-b
+bounds-out-b c = omega arith
 
-slice-write-out : tie.Need-slice-write-out invariant-loop decreases-loop
-slice-write-out c = omega arith
+pub overflow_add-b : goal.overflow_add-b
+overflow_add-b c = omega arith
 
-add-b : tie.Need-overflow-add-b invariant-loop decreases-loop
-add-b c = omega arith
+pub loop-b-smaller : goal.loop-b-smaller
+loop-b-smaller c = omega arith
 
-loop-less : tie.Need-loop-smaller invariant-loop decreases-loop
-loop-less c = omega arith
-
-loop-again : tie.Need-loop-preserved invariant-loop decreases-loop
-loop-again c =
-    let l = c.before.before.loop in
-    let a = c.before.before.before.before.args in (
+pub loop-b-preserved : goal.loop-b-preserved
+loop-b-preserved c =
+    let l = c.loop-b in
+    let a = c.args in (
       omega arith,
       omega arith,
       simp length-set (omega arith),
       more a.outcome a.p l.b c.glyph.result l.out a.out.now (omega arith) (omega arith) c.glyph.ensures l.invariant.3,
     )
 
-same_length : tie.Need-same-length invariant-loop decreases-loop
-same_length c = omega arith
+pub shape_of-out : goal.shape_of-out
+shape_of-out c = omega arith
 
-returns : tie.Need-returns invariant-loop decreases-loop
+pub returns : goal.returns
 returns c =
-    let l = c.before.loop in
-    let a = c.before.before.before.args in
+    let l = c.loop-b in
+    let a = c.args in
     let e : l.b ≡ a.q = omega arith in
     l.invariant.3 ∙ ap (λ (b : ℕ). painted a.outcome a.p b a.out.now) e
-
-pub paint-spec : {M : Type 1} → statement M
-paint-spec =
-    tie.close (tie.spec invariant-loop decreases-loop loop-holds glyph-requires slice-write-out add-b loop-less loop-again same_length returns)
