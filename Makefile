@@ -15,7 +15,7 @@ installed = include/notchbadger.h lib/libnotchbadger.a lib/pkgconfig/notchbadger
 
 all:
 	programs/prove
-	rt staticlib notchbadger
+	programs/archive
 	programs/build
 
 demo:
