@@ -20,8 +20,8 @@ pub enum Loaded {
 // Linux starts no program with a longer argument.
 const ARGUMENT_MOST: usize = 131072;
 
-// Puts argument i at the start of `text`, as it was given, and gives its length: 0 where it is missing or longer than `text`.
-fn put_argument<R: Env>(rt: &R, i: usize, text: &mut [u8]) -> usize
+// Copies argument i to the start of `text`, as it was given, and gives its length: 0 where it is missing or longer than `text`.
+fn copy_argument<R: Env>(rt: &R, i: usize, text: &mut [u8]) -> usize
     ensures { result ≤ length text.new }
 {
     match rt.arg(i, text) {
@@ -35,14 +35,14 @@ pub fn argument<R: Env>(rt: &R, i: usize, most: u64) -> Parsed
     ensures { Within most result }
 {
     let mut text = [0u8; ARGUMENT_MOST];
-    let n = put_argument(rt, i, &mut text);
+    let n = copy_argument(rt, i, &mut text);
     print::parse(&text[..n], most)
 }
 
 // Whether the first argument is --help.
 pub fn wants_help<R: Env>(rt: &R) -> bool {
     let mut text = [0u8; 4096];
-    let n = put_argument(rt, 1, &mut text);
+    let n = copy_argument(rt, 1, &mut text);
     buffer::same(&text[..n], b"--help")
 }
 
@@ -120,7 +120,7 @@ pub fn load_image<R: Env + Files + Input, E: Print>(rt: &R, err: &E, room: &mut 
     ensures { Held (length room.new) result }
 {
     let mut name = [0u8; 4096];
-    let n = put_argument(rt, 1, &mut name);
+    let n = copy_argument(rt, 1, &mut name);
     if buffer::same(&name[..n], b"-") {
         let mut input = rt.reader();
         return fill(&mut input, err, b"image ", &name[..n], room);
@@ -132,6 +132,6 @@ pub fn load_key<R: Env + Files, E: Print>(rt: &R, err: &E, room: &mut [u8]) -> L
     ensures { Held (length room.new) result }
 {
     let mut name = [0u8; 4096];
-    let n = put_argument(rt, 2, &mut name);
+    let n = copy_argument(rt, 2, &mut name);
     load(rt, err, b"key ", &name[..n], room)
 }
