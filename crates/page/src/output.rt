@@ -1,4 +1,6 @@
 // What the page is written to, which keeps why a write failed: the page's own functions answer only that one did.
+ghost use Rattle.std.specs.Prelude.{◌≡◌};
+
 use std::cell::Cell;
 use std::fmt::Display;
 use std::io;
@@ -10,7 +12,9 @@ pub struct Output<'a, P> {
 }
 
 impl<'a, P: Print> Output<'a, P> {
-    pub fn new(to: &'a P) -> Output<'a, P> {
+    pub fn new(to: &'a P) -> Output<'a, P>
+        ensures { result.to ≡ to.entry }
+    {
         Output {
             to,
             failure: Cell::new(io::Error::from(io::ErrorKind::Other)),

@@ -4,7 +4,7 @@
 
 mod input;
 
-ghost use Rattle.std.specs.Prelude.{◌≡◌};
+ghost use Rattle.std.specs.Prelude.{◌≡◌, ◌≤◌};
 ghost use Rattle.survey.specs.Report.{report_of};
 ghost use Rattle.walk.specs.Status.{status_of, Ends};
 
@@ -84,7 +84,9 @@ fn with_image<R: Env + Files + Print, E: Print>(
     id: u32,
     recording: u64,
     image: &[u8],
-) -> u8 {
+) -> u8
+    ensures { result ≤ 2 }
+{
     let mut key = [0u8; KEY_ROOM];
     match input::load_key(rt, err, &mut key) {
         Loaded::Bytes(n) => serve(rt, err, &key[0..n], id, recording, image),
@@ -97,7 +99,9 @@ fn with_numbers<R: Env + Files + Input + Print, E: Print>(
     err: &E,
     id: u32,
     recording: u64,
-) -> u8 {
+) -> u8
+    ensures { result ≤ 2 }
+{
     let mut image = [0u8; IMAGE_ROOM];
     match input::load_image(rt, err, &mut image) {
         Loaded::Bytes(n) => with_image(rt, err, id, recording, &image[0..n]),
@@ -105,17 +109,23 @@ fn with_numbers<R: Env + Files + Input + Print, E: Print>(
     }
 }
 
-fn wrong_recording<R: Env, E: Print>(rt: &R, err: &E, wrong: &[u8]) -> u8 {
+fn wrong_recording<R: Env, E: Print>(rt: &R, err: &E, wrong: &[u8]) -> u8
+    ensures { result ≤ 2 }
+{
     complaints::wrong_recording(rt, err, wrong);
     NOT_DONE
 }
 
-fn wrong_id<R: Env, E: Print>(rt: &R, err: &E, wrong: &[u8]) -> u8 {
+fn wrong_id<R: Env, E: Print>(rt: &R, err: &E, wrong: &[u8]) -> u8
+    ensures { result ≤ 2 }
+{
     complaints::wrong_id(rt, err, wrong);
     NOT_DONE
 }
 
-fn with_id<R: Env + Files + Input + Print, E: Print>(rt: &R, err: &E, id: u32) -> u8 {
+fn with_id<R: Env + Files + Input + Print, E: Print>(rt: &R, err: &E, id: u32) -> u8
+    ensures { result ≤ 2 }
+{
     match input::argument(rt, 4, 18446744073709551615) {
         Parsed::Is(recording) => with_numbers(rt, err, id, recording),
         Parsed::Above => wrong_recording(rt, err, b"\" is too large"),
@@ -123,7 +133,9 @@ fn with_id<R: Env + Files + Input + Print, E: Print>(rt: &R, err: &E, id: u32) -
     }
 }
 
-fn with_arguments<R: Env + Files + Input + Print, E: Print>(rt: &R, err: &E) -> u8 {
+fn with_arguments<R: Env + Files + Input + Print, E: Print>(rt: &R, err: &E) -> u8
+    ensures { result ≤ 2 }
+{
     match input::argument(rt, 3, 4294967295) {
         Parsed::Is(id) => with_id(rt, err, id as u32),
         Parsed::Above => wrong_id(rt, err, b"\" is too large"),
@@ -131,7 +143,9 @@ fn with_arguments<R: Env + Files + Input + Print, E: Print>(rt: &R, err: &E) -> 
     }
 }
 
-fn help<P: Print, E: Print>(rt: &P, err: &E) -> u8 {
+fn help<P: Print, E: Print>(rt: &P, err: &E) -> u8
+    ensures { result ≤ 2 }
+{
     let out = Output::new(rt);
     if page::help(&out) {
         return CLEAN;
@@ -140,8 +154,11 @@ fn help<P: Print, E: Print>(rt: &P, err: &E) -> u8 {
     NOT_DONE
 }
 
-// The arguments, the files, standard input and standard output are `rt`'s; `err` is standard error.
-pub fn walk_run<R: Env + Files + Input + Print, E: Print>(rt: &R, err: &E) -> u8 {
+// Answers the status: clean, damaged or not done. The arguments, the files, standard input and standard output are `rt`'s; `err` is standard
+// error.
+pub fn walk_run<R: Env + Files + Input + Print, E: Print>(rt: &R, err: &E) -> u8
+    ensures { result ≤ 2 }
+{
     if input::wants_help(rt) {
         return help(rt, err);
     }

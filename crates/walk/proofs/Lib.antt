@@ -1,0 +1,2 @@
+-- What is true of the statuses.
+pub mod Statuses
