@@ -1,5 +1,5 @@
 #!/usr/bin/env python3
-"""Brings this repository's own antt names to snake case, once, behind /opt/rattle/port/port.py.
+"""Brings this repository's own antt names to snake case, once, behind the kit's port/port.py.
 
 usage: tools/respell.py [FOLDER]      the repository's top; here without a word
 
