@@ -9,6 +9,22 @@ use Rattle.laws.proofs.ChooseLaws.{no_refusal}
 use Rattle.aead.specs.Sealing.{sealed, opened, fits, sized, limited, seal_number, open_number, seal_leaves, open_leaves, Sealed, Opened}
 use Rattle.aead.proofs.Lengths.{Sizes, Limits, sizes, limits, sized_holds, limited_holds}
 
+-- sizes and limits kept: sealing refuses nothing, opening only what does not fit
+pub seal_takes : {k n a p o o' : List ℕ} {r : ℕ} → Sizes k n (length o) (length p) → Limits a (length p) → Sealed k n a p o r o' → (r ≡ 0) × (o' ≡ sealed k n a p)
+unfolding seal_number seal_leaves
+seal_takes {k} {n} {a} {p} {o} s l c =
+    let e = sized_holds k n (length o) (length p) s in
+    let f = limited_holds a (length p) l in
+    (c.code ∙ rw (e, f), c.bytes ∙ rw (e, f))
+
+pub open_takes : {k n a t q q' : List ℕ} {r : ℕ} → Sizes k n (length t) (length q) → Limits a (length q) → fits k n a t ≡ true → Opened k n a t q r q'
+    → (r ≡ 0) × (q' ≡ opened k n a t)
+unfolding open_number open_leaves
+open_takes {k} {n} {a} {t} {q} s l g c =
+    let e = sized_holds k n (length t) (length q) s in
+    let f = limited_holds a (length q) l in
+    (c.code ∙ rw (e, f, g), c.bytes ∙ rw (e, f, g))
+
 pub record SealAccepted (k n a p o o' : List ℕ) : Type 0 where
   pub sizes : Sizes k n (length o) (length p)
   pub limits : Limits a (length p)
@@ -43,22 +59,6 @@ open_accepted {k} {n} {a} {t} {q} c =
       fit = g.0;
       bytes = c.bytes ∙ rw (e.0, f.0, g.0);
     }
-
--- sizes and limits kept: sealing refuses nothing, opening only what does not fit
-pub seal_takes : {k n a p o o' : List ℕ} {r : ℕ} → Sizes k n (length o) (length p) → Limits a (length p) → Sealed k n a p o r o' → (r ≡ 0) × (o' ≡ sealed k n a p)
-unfolding seal_number seal_leaves
-seal_takes {k} {n} {a} {p} {o} s l c =
-    let e = sized_holds k n (length o) (length p) s in
-    let f = limited_holds a (length p) l in
-    (c.code ∙ rw (e, f), c.bytes ∙ rw (e, f))
-
-pub open_takes : {k n a t q q' : List ℕ} {r : ℕ} → Sizes k n (length t) (length q) → Limits a (length q) → fits k n a t ≡ true → Opened k n a t q r q'
-    → (r ≡ 0) × (q' ≡ opened k n a t)
-unfolding open_number open_leaves
-open_takes {k} {n} {a} {t} {q} s l g c =
-    let e = sized_holds k n (length t) (length q) s in
-    let f = limited_holds a (length q) l in
-    (c.code ∙ rw (e, f, g), c.bytes ∙ rw (e, f, g))
 
 -- where the tag does not fit, all that is left is zeros
 pub open_zeros : {k n a t q q' : List ℕ} → Opened k n a t q 7 q' → q' ≡ replicate (length q) 0

@@ -1,22 +1,25 @@
 -- What a header and an opened payload are: as the code says it, and as a content.
 -- Assumes nothing.
-use borrow.Author.Tests.{eqb-true, leb-true}
+use borrow.Author.Tests.{eqb-true, leb-true, ne_eqb, lt-leb}
 use mathlib.Core.Path.{◌≡◌, refl, sym, ap, ◌∙◌}
 use mathlib.Core.Bool.{Bool, true, false, ◌&&◌}
 use mathlib.Core.List.{List, []}
-use Prim.Native.Nat.{ℕ, ◌≤◌}
+use Prim.Native.Nat.{ℕ, zero, suc, ◌≤◌}
 use native.Mathlib.Omega.{arith}
 use lib.Dec.{eqb, leb}
 use lib.ListN.{length, take, drop, replicate}
 use lib.Seq.{length-take-le}
+use Rattle.std.specs.Prelude.{Option, Some, None}
 use Rattle.laws.specs.Choose.{pick}
 use Rattle.laws.proofs.ChooseLaws.{both_left, both_right}
+use Rattle.block.specs.declared.Kind.{Kind}
+use Rattle.block.specs.declared.Kind.TheVariants as kind
 use Rattle.block.specs.declared.Seen.{Seen}
 use Rattle.block.specs.declared.Seen.TheVariants as seen
-use Rattle.block.specs.Content.{Content, shut, more, head, first, mark, eod, bytes_of}
+use Rattle.block.specs.Content.{Content, shut, more, head, first, mark, eod, flag, bytes_of}
 use Rattle.block.specs.Format.{payload, used_ok, all_zero, content_of}
-use Rattle.block.specs.Calls.{seen_of}
-use Rattle.block.specs.Steps.{head_says}
+use Rattle.block.specs.Calls.{fits_kind, seen_of}
+use Rattle.block.specs.Steps.{kind_said, seen_as, head_says}
 use Rattle.block.proofs.PayloadLaws.{payload_nil, payload_back}
 
 -- the content o is what the code says as s of a payload m
@@ -60,7 +63,8 @@ used_most last used = go (eqb last 0) (eqb last 1)
     go true u e = omega (arith, eqb-true used 488 e)
     go false u e = leb-true used 488 (both_right (leb 1 used) (leb used 488) (both_right u (leb 1 used && leb used 488) e))
 
--- what holds of `shut`, and of each other content where the header says it and what is unused is zero, holds of what opens
+-- what holds of `shut`, and of each other content where the header says it and what is unused is zero, holds of what
+-- opens
 pub content_cases : (P : Content → Type 0) (kind last used : ℕ) (m : List ℕ) → P shut
     → (all_zero (drop used m) ≡ true → used_ok last used ≡ true
     → (kind ≡ 1 → P (head (first (eqb last 1) (take used m)))) × (kind ≡ 2 → P (more (eqb last 1) (take used m))))
@@ -91,6 +95,41 @@ content_cases P kind last used m s f g =
     go true false u false true false true a b = (b refl refl).1 refl
     go true false u false true false false a b = s
     go true false u false false k₃ k₄ a b = s
+
+-- ---- the header, by way of the kind that it says
+abbrev as_said : Option Kind → ℕ → Seen
+as_said None n = seen.Shut
+as_said (Some k) n = pick (fits_kind k n) (seen_as k n) seen.Shut
+
+used_by : (l n : ℕ) → used_ok l n ≡ (leb l 1 && used_ok (flag (eqb l 1)) n)
+unfolding used_ok
+used_by zero n = refl
+used_by (suc zero) n = refl
+used_by (suc (suc l)) n = rw (ne_eqb (suc (suc l)) 0 (λ e. omega arith), ne_eqb (suc (suc l)) 1 (λ e. omega arith), lt-leb (suc (suc l)) 1 (omega arith))
+
+pub said_is : (k l n : ℕ) → head_says k l n ≡ as_said (kind_said k l) n
+unfolding kind_said head_says
+said_is k l n = rw (used_by l n) (go (eqb l 1) (eqb k 1) (eqb k 2) (eqb k 3) (eqb k 4) (leb l 1) (eqb l 0))
+  where
+    no_kind : (t : Bool) → pick t seen.Shut seen.Shut ≡ seen.Shut
+    no_kind true = refl
+    no_kind false = refl
+
+    go : (o k₁ k₂ k₃ k₄ m z : Bool)
+        → pick k₁ (pick (m && used_ok (flag o) n) (seen.First o n) seen.Shut)
+        (pick k₂ (pick (m && used_ok (flag o) n) (seen.More o n) seen.Shut)
+        (pick (z && eqb n 0) (pick k₃ seen.Mark (pick k₄ seen.End seen.Shut)) seen.Shut))
+        ≡ as_said
+        (pick k₁ (pick m (Some (kind.First o)) None)
+        (pick k₂ (pick m (Some (kind.More o)) None) (pick z (pick k₃ (Some kind.Mark) (pick k₄ (Some kind.End) None)) None))) n
+    go o true k₂ k₃ k₄ true z = refl
+    go o true k₂ k₃ k₄ false z = refl
+    go o false true k₃ k₄ true z = refl
+    go o false true k₃ k₄ false z = refl
+    go o false false true k₄ m true = refl
+    go o false false false true m true = refl
+    go o false false false false m true = no_kind (eqb n 0)
+    go o false false k₃ k₄ m false = refl
 
 -- where the unused bytes are zero, the header decides; else nothing opens
 pub header_decides : (kind last used : ℕ) (m : List ℕ) → length m ≡ 488 → all_zero (drop used m) ≡ true → Judged (content_of kind last used m) (head_says kind last used) m

@@ -10,6 +10,7 @@ use lib.Dec.{eqb, leb}
 use lib.ListN.{length}
 use Rattle.laws.specs.Choose.{first_of}
 use Rattle.laws.proofs.ChooseLaws.{both_left, both_right, no_refusal}
+use Rattle.numbers.proofs.RefusalLaws.{first_named}
 use Rattle.aead.specs.Sealing.{key_ok}
 use Rattle.aead.proofs.Lengths.{key_ok_lem, key_24}
 use Rattle.block.specs.Image.{capacity_of, size_ok, image_ok, image_then_key}
@@ -57,3 +58,8 @@ module _ (key image : List ℕ) where
       let a = no_refusal (image_ok image) 0 _ e in
       let b = no_refusal (key_ok key) 1 rest a.1 in
       (record { image_holds = a.0; key24 = key_24 key b.0 }, b.1)
+
+  -- what it gives is 0 or the number of a cause, where the rest is
+  pub asks_named : (rest : ℕ) → rest ≤ 9 → image_then_key key image rest ≤ 9
+  unfolding image_then_key
+  asks_named rest h = first_named (image_ok image) 1 _ (omega arith) (first_named (key_ok key) 2 rest (omega arith) h)

@@ -9,16 +9,19 @@ use native.Mathlib.Omega.{arith}
 use lib.Dec.{eqb}
 use lib.ListN.{length, get_or, take, drop, replicate, length-drop}
 use lib.Seq.{take-take, get_or-take, length-take-le}
+use Rattle.std.specs.Prelude.{Ok, Err}
 use Rattle.laws.specs.Choose.{pick}
 use Rattle.laws.proofs.ListLaws.{drop_take}
+use Rattle.numbers.specs.declared.Refusal.TheVariants as refusal
+use Rattle.numbers.proofs.RefusalLaws.{answered_err}
 use Rattle.aead.specs.Sealing.{fits, opened, open_number, open_leaves, Opened}
 use Rattle.aead.proofs.Lengths.{key_ok_lem, Sizes, Limits, sized_holds, limited_holds}
 use Rattle.aead.proofs.Calls.{open_takes}
 use Rattle.block.specs.declared.Seen.{Seen}
 use Rattle.block.specs.declared.Seen.TheVariants as seen
-use Rattle.block.specs.Content.{Content, shut, more, head, first, mark, eod, bytes_of}
+use Rattle.block.specs.Content.{Content, shut, bytes_of}
 use Rattle.block.specs.Format.{nonce_at, number4, number2, payload, content_of, open_block}
-use Rattle.block.specs.Calls.{seen_of, seen_number, open_block_number, OpenedAt}
+use Rattle.block.specs.Calls.{seen_of, open_block_number, OpenedAt}
 use Rattle.block.proofs.NumberLaws.{length_nonce}
 use Rattle.block.proofs.ContentLaws.{zeros_left}
 
@@ -92,15 +95,8 @@ module _ (key : List ℕ) (id recording p : ℕ) (part : List ℕ) where
 
 -- ---- the call's answers
 module _ {key : List ℕ} {id recording p : ℕ} {part out : List ℕ} where
-  pub open_stays : open_block_number key part out ≡ 2 → OpenedAt key id recording p part out (seen.Refused 2) out
-  open_stays e = record { code = sym e; says = rw e; bytes = rw e }
-
-seen_0 : (o : Content) → seen_number (seen_of o) ≡ 0
-seen_0 shut = refl
-seen_0 (more l b) = refl
-seen_0 (head (first l b)) = refl
-seen_0 (head mark) = refl
-seen_0 (head eod) = refl
+  pub open_stays : open_block_number key part out ≡ 2 → OpenedAt key id recording p part out (Err refusal.WrongLength) out
+  open_stays e = record { code = sym e; says = rw e (sym (answered_err (seen_of (open_block key id recording p (take 512 part))) refusal.WrongLength)); bytes = rw e }
 
 module _ (key part out : List ℕ) (hk : length key ≡ 24) (hp : 512 ≤ length part) (ho : length out ≡ 488) where
   pub may_open : open_block_number key part out ≡ 0
@@ -108,9 +104,9 @@ module _ (key part out : List ℕ) (hk : length key ≡ 24) (hp : 512 ≤ length
   may_open = rw (key_ok_lem key hk, le-leb 512 (length part) hp, eq-eqb (length out) 488 ho)
 
   pub open_answers : {id recording p : ℕ} (o : Content) {r : Seen} {out' : List ℕ} → open_block key id recording p (take 512 part) ≡ o → r ≡ seen_of o → out' ≡ payload (bytes_of o)
-      → OpenedAt key id recording p part out r out'
-  open_answers o e f g = record { code = ap seen_number f ∙ seen_0 o ∙ sym may_open; says = f ∙ rw (may_open, e); bytes = g ∙ rw (may_open, e) }
+      → OpenedAt key id recording p part out (Ok r) out'
+  open_answers o e f g = record { code = sym may_open; says = rw (may_open, e) (ap Ok f); bytes = g ∙ rw (may_open, e) }
 
   pub open_shuts : {id recording p : ℕ} {out' : List ℕ} → open_block key id recording p (take 512 part) ≡ shut → out' ≡ replicate (length out) 0
-      → OpenedAt key id recording p part out seen.Shut out'
+      → OpenedAt key id recording p part out (Ok seen.Shut) out'
   open_shuts e f = open_answers shut e refl (zeros_left shut out ho f refl)

@@ -1,4 +1,5 @@
--- What opens is lawful: of 512 bytes under a key of bytes, a block is shut or its content is one that could be sealed there.
+-- What opens is lawful: of 512 bytes under a key of bytes, a block is shut or its content is one that could be sealed
+-- there.
 -- Assumes nothing.
 use borrow.Author.Tests.{eqb-true, leb-true}
 use mathlib.Core.Path.{◌≡◌, refl, ◌∙◌}

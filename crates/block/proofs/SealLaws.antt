@@ -67,9 +67,9 @@ module _ {key : List ℕ} {id recording p : ℕ} {k : Kind} {b part : List ℕ} 
   pub seal_refuses : seal_block_number key k b part ≡ 2 → SealedAt key id recording p k b part 2 part
   seal_refuses e = record { code = sym e; bytes = rw e }
 
-  pub seal_writes : {part' : List ℕ} → seal_block_number key k b part ≡ 0 → part' ≡ splice part 0 (seal_block key id recording p (content_for k b))
-      → SealedAt key id recording p k b part 0 part'
-  seal_writes e f = record { code = sym e; bytes = f ∙ rw e }
+  pub seal_writes : {r : ℕ} {part' : List ℕ} → seal_block_number key k b part ≡ 0 → r ≡ 0 → part' ≡ splice part 0 (seal_block key id recording p (content_for k b))
+      → SealedAt key id recording p k b part r part'
+  seal_writes e z f = record { code = z ∙ sym e; bytes = f ∙ rw e }
 
 no_bytes : (b : List ℕ) → length b ≡ 0 → b ≡ []
 no_bytes [] e = refl
@@ -84,22 +84,25 @@ module _ (key : List ℕ) (id recording p : ℕ) where
   block_for kind.Mark b e = ap (block_of key id recording p 3 0) (no_bytes b (eqb-true (length b) 0 e))
   block_for kind.End b e = ap (block_of key id recording p 4 0) (no_bytes b (eqb-true (length b) 0 e))
 
-  pub block_made : (k : Kind) (b : List ℕ) {n h m : List ℕ} {i l : ℕ} → fits_kind k (length b) ≡ true → n ≡ nonce_at id recording p → i ≡ kind_of (content_for k [])
-      → l ≡ last_of (content_for k []) → h ≡ header p i l (length b) → m ≡ payload b → h ++ sealed key n h m ≡ seal_block key id recording p (content_for k b)
+  pub block_made : (k : Kind) (b : List ℕ) {n h m : List ℕ} → fits_kind k (length b) ≡ true → n ≡ nonce_at id recording p
+      → h ≡ header p (kind_of (content_for k [])) (last_of (content_for k [])) (length b) → m ≡ payload b
+      → h ++ sealed key n h m ≡ seal_block key id recording p (content_for k b)
   unfolding block_of
-  block_made k b e f g j o q = rw (f, o, g, j, q) (block_for k b e)
+  block_made k b e f o q = rw (f, o, q) (block_for k b e)
 
 -- ---- the header copied to the front, then the payload sealed behind it
 pub parts_laid : (key n h m part part₁ : List ℕ) {q : List ℕ} {r : ℕ} → length key ≡ 24 → length n ≡ 16 → length h ≡ 8 → length m ≡ 488 → 512 ≤ length part
     → part₁ ≡ splice part 0 (take (length part) h) → Sealed key n h m (take 504 (drop 8 part₁)) r q
-    → take 8 part₁ ++ (q ++ drop 504 (drop 8 part₁)) ≡ splice part 0 (h ++ sealed key n h m)
+    → (r ≡ 0) × (take 8 part₁ ++ (q ++ drop 504 (drop 8 part₁)) ≡ splice part 0 (h ++ sealed key n h m))
 parts_laid key n h m part part₁ {q} hk hn hh hm hp e c =
     let f : part₁ ≡ splice part 0 h = e ∙ ap (splice part 0) (take_all (length part) h (omega arith)) in
     let l : length part₁ ≡ length part = ap length f ∙ length_splice part 0 h (omega arith) in
     let o : length (take 504 (drop 8 part₁)) ≡ 504 = length-take-le 504 (drop 8 part₁) (omega (arith, length-drop 8 part₁)) in
-    let s = (seal_takes (record { key24 = hk; nonce16 = hn; more16 = omega arith }) (record { associated_most = omega arith; short_most = omega arith }) c).1 in
-    let w : length q ≡ 504 = ap length s ∙ length_sealed key n h m ∙ omega arith in
-    splice_mid part₁ 8 504 q w
-    ∙ ap (λ (x : List ℕ). splice x 8 q) f
-    ∙ splice_next part 0 h 8 q (omega arith) (omega arith)
-    ∙ ap (λ (x : List ℕ). splice part 0 (h ++ x)) s
+    let s = seal_takes (record { key24 = hk; nonce16 = hn; more16 = omega arith }) (record { associated_most = omega arith; short_most = omega arith }) c in
+    let w : length q ≡ 504 = ap length s.1 ∙ length_sealed key n h m ∙ omega arith in (
+      s.0,
+      splice_mid part₁ 8 504 q w
+          ∙ ap (λ (x : List ℕ). splice x 8 q) f
+          ∙ splice_next part 0 h 8 q (omega arith) (omega arith)
+          ∙ ap (λ (x : List ℕ). splice part 0 (h ++ x)) s.1,
+    )

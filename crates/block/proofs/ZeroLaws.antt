@@ -1,16 +1,19 @@
 -- The test for zeros, and the bytes gathered by `or`.
 -- Assumes nothing.
 use borrow.Author.Tests.{eq-eqb, ne_eqb, eqb-true, eqb-false}
-use mathlib.Core.Path.{◌≡◌, refl, ap₂}
+use mathlib.Core.Path.{◌≡◌, refl, sym, ap, ap₂, ◌∙◌}
 use mathlib.Core.Bool.{Bool, true, false, ◌&&◌}
 use mathlib.Core.List.{List, [], ◌∷◌}
-use Prim.Native.Nat.{ℕ, zero, suc, ◌+◌, ◌≤◌, ◌<◌}
+use mathlib.Core.Logic.{⊎_elim}
+use Prim.Native.Nat.{ℕ, zero, suc, ◌+◌, ◌-◌, ◌≤◌, ◌<◌}
 use native.Mathlib.Numerals.{add-one}
 use native.Mathlib.Omega.{arith}
 use lib.Bits.{bit_or, or_add_and, and_le_l, and_le_r}
 use lib.Dec.{eqb}
-use lib.ListN.{length, get_or, drop, replicate, drop_of_length-le}
-use lib.Seq.{drop-cons}
+use lib.ListN.{length, get_or, take, drop, replicate, length-drop, drop_of_length-le}
+use lib.Seq.{drop-cons, take_all}
+use Rattle.std.specs.Prelude.{min}
+use Rattle.laws.proofs.OrderLaws.{lt_or_ge}
 use Rattle.laws.proofs.ChooseLaws.{both_left, both_right}
 use Rattle.block.specs.Format.{all_zero}
 
@@ -50,3 +53,21 @@ gather_more s i any h =
 pub gather_all : (s : List ℕ) (i any : ℕ) → length s ≤ i → (eqb any 0 && all_zero (drop i s)) ≡ eqb any 0
 unfolding all_zero
 gather_all s i any h = rw (drop_of_length-le s {i = i} h) (and_true (eqb any 0))
+
+-- ---- the part of a buffer behind `used` bytes, none where there are no more
+behind : (n : ℕ) (m : List ℕ) → drop (min n (length m)) m ≡ drop n m
+behind n m = ⊎_elim (λ l. ap (λ (k : ℕ). drop k m) (omega arith)) (λ g. short (omega arith)) (lt_or_ge n (length m))
+  where
+    short : length m ≤ n → drop (min n (length m)) m ≡ drop n m
+    short h =
+        let e : length m ≤ min n (length m) = omega arith in
+        drop_of_length-le m {i = min n (length m)} e ∙ sym (drop_of_length-le m {i = n} h)
+
+unused_part : (n : ℕ) (m : List ℕ) {r : ℕ} → length m ≡ 488 → r ≡ min n 488 → take (length m - r) (drop r m) ≡ drop n m
+unused_part n m {r} h e =
+    let q : r ≡ min n (length m) = omega arith in
+    take_all (length m - r) (drop r m) (omega (arith, length-drop r m)) ∙ ap (λ (k : ℕ). drop k m) q ∙ behind n m
+
+pub unused_zero : (n : ℕ) (m : List ℕ) {r : ℕ} {t : Bool} → length m ≡ 488 → r ≡ min n 488
+    → t ≡ all_zero (take (length m - r) (drop r m)) → t ≡ all_zero (drop n m)
+unused_zero n m h e z = z ∙ ap all_zero (unused_part n m h e)

@@ -1,7 +1,9 @@
 -- What the calls on one block promise. They are for the layers above, and total all the same.
-use Rattle.std.specs.Prelude.{◌≡◌, Bool, ◌&&◌, List, ℕ, eqb, leb, length, take}
+use Rattle.std.specs.Prelude.{◌≡◌, Bool, ◌&&◌, List, ℕ, eqb, leb, length, take, Result}
 use Rattle.laws.specs.Choose.{pick, first_of}
 use Rattle.laws.specs.Lists.{splice}
+use Rattle.numbers.specs.declared.Refusal.{Refusal}
+use Rattle.numbers.specs.Refusals.{number_of, answered}
 use Rattle.aead.specs.Sealing.{key_ok}
 use Rattle.block.specs.declared.Kind.{Kind}
 use Rattle.block.specs.declared.Kind.TheVariants as kind
@@ -41,22 +43,12 @@ seen_of (head (first l b)) = seen.First l (length b)
 seen_of (head mark) = seen.Mark
 seen_of (head eod) = seen.End
 
--- a refusal's number; 0 where the block was looked at
-abbrev pub seen_number : Seen → ℕ
-seen_number seen.Shut = 0
-seen_number (seen.First l n) = 0
-seen_number (seen.More l n) = 0
-seen_number seen.Mark = 0
-seen_number seen.End = 0
-seen_number (seen.Refused n) = n
-
 -- 2: a key, a part or a receiving buffer of a wrong length
 unfoldable pub open_block_number : List ℕ → List ℕ → List ℕ → ℕ
 open_block_number key part out = first_of (key_ok key && (leb 512 (length part) && eqb (length out) 488)) 2 0
 
-pub record OpenedAt (key : List ℕ) (id recording p : ℕ) (part out : List ℕ) (r : Seen) (out' : List ℕ) : Type 0 where
-  pub code : seen_number r ≡ open_block_number key part out
-  pub says : r ≡ pick (eqb (open_block_number key part out) 0)
-      (seen_of (open_block key id recording p (take 512 part))) (seen.Refused (open_block_number key part out))
+pub record OpenedAt (key : List ℕ) (id recording p : ℕ) (part out : List ℕ) (r : Result Seen Refusal) (out' : List ℕ) : Type 0 where
+  pub code : number_of r ≡ open_block_number key part out
+  pub says : r ≡ answered (open_block_number key part out) (seen_of (open_block key id recording p (take 512 part)))
   pub bytes : out' ≡ pick (eqb (open_block_number key part out) 0)
       (payload (bytes_of (open_block key id recording p (take 512 part)))) out

@@ -1,5 +1,5 @@
--- What opens at a place (FORMAT, "The cartridge image"): nothing; a record's following block, with byte 5 and the bytes used; or a block at
--- which something begins: a record's first block, a file mark, end of data.
+-- What opens at a place (FORMAT, "The cartridge image"): nothing; a record's following block, with byte 5 and the
+-- bytes used; or a block at which something begins: a record's first block, a file mark, end of data.
 use Rattle.std.specs.Prelude.{◌≡◌, Bool, true, false, List, [], ℕ, ◌≤◌, length}
 use Rattle.laws.specs.Lists.{AllBytes}
 

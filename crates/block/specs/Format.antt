@@ -1,4 +1,5 @@
--- The 512 bytes of a block at its place (FORMAT, "The cartridge image"): numbers big-endian, header 8, payload 488, tag 16.
+-- The 512 bytes of a block at its place (FORMAT, "The cartridge image"): numbers big-endian, header 8, payload 488,
+-- tag 16.
 use Rattle.std.specs.Prelude.{Bool, true, ◌&&◌, List, [], ◌∷◌, ◌++◌, ℕ, ◌+◌, ◌*◌, ◌/◌, ◌%◌, eqb, leb, length, get_or, take, drop, replicate}
 use Rattle.laws.specs.Choose.{pick}
 use Rattle.aead.specs.Sealing.{sealed, opened, fits}

@@ -1,18 +1,18 @@
 // One block of a cartridge at its place: sealed at the front of a lent part, opened straight into a lent buffer.
 #![tactic(auto)]
 
-ghost use Rattle.std.specs.Prelude.{◌≡◌, [], ◌++◌, ◌≤◌, ◌<◌, length, drop};
+ghost use Rattle.std.specs.Prelude.{◌≡◌, [], ◌∷◌, ◌++◌, ◌≤◌, length};
 ghost use Rattle.laws.specs.Lists.{splice};
+ghost use Rattle.numbers.specs.Refusals.{number_of};
 ghost use Rattle.aead.specs.Sealing.{sealed};
 ghost use Rattle.block.specs.Content.{flag, kind_of, last_of, bytes_of};
 ghost use Rattle.block.specs.Format.{nonce_at, header, payload, number4, number2, all_zero, used_ok, content_of};
-ghost use Rattle.block.specs.Image.{size_ok, image_then_key};
+ghost use Rattle.block.specs.Image.{capacity_of, size_ok, image_then_key};
 ghost use Rattle.block.specs.Calls.{content_for, fits_kind, SealedAt, seen_of, OpenedAt};
-ghost use Rattle.block.specs.Steps.{head_says};
+ghost use Rattle.block.specs.Steps.{kind_said, seen_as, head_says};
 
 use numbers::{
-    BLOCK_BYTES, BLOCK_PAYLOAD, DONE, IMAGE_FEWEST, IMAGE_MOST, KEY_BYTES, WRONG_IMAGE,
-    WRONG_LENGTH,
+    BLOCK_BYTES, BLOCK_PAYLOAD, IMAGE_FEWEST, IMAGE_MOST, KEY_BYTES, NONCE_BYTES, Refusal,
 };
 
 // The smallest and the largest image.
@@ -21,7 +21,7 @@ const SMALLEST: usize = IMAGE_FEWEST * BLOCK_BYTES;
 const LARGEST: usize = IMAGE_MOST * BLOCK_BYTES;
 
 // What is sealed: for a record's blocks byte 5, whether it is the record's last.
-#[derive(Clone, Copy)]
+#[derive(Clone, Copy, Debug, PartialEq, Eq)]
 pub enum Kind {
     First(bool),
     More(bool),
@@ -29,123 +29,158 @@ pub enum Kind {
     End,
 }
 
-// What opens at a place: for a record's blocks byte 5 and the bytes used. Refused, with its number, nothing was opened.
-#[derive(Clone, Copy)]
+// What opens at a place: for a record's blocks byte 5 and the bytes used. That nothing does is a case beside the others,
+// as in `Content`: an Option around them would part what every `match` asks together.
+#[derive(Clone, Copy, Debug, PartialEq, Eq)]
 pub enum Seen {
     Shut,
     First(bool, usize),
     More(bool, usize),
     Mark,
     End,
-    Refused(u8),
+}
+
+// What a read is lent: an image, and what its blocks are sealed under, a key, the cartridge's id and the number of
+// its recording.
+#[derive(Clone, Copy)]
+pub struct Cartridge<'a> {
+    pub key: &'a [u8],
+    pub id: u32,
+    pub recording: u64,
+    pub image: &'a [u8],
+}
+
+impl Cartridge<'_> {
+    // How many blocks the image has.
+    #[tactic(auto, unfolding(crate::specs::Image::capacity_of))]
+    pub fn capacity(self) -> usize
+        ensures { result ≡ capacity_of self.entry.image.now }
+    {
+        self.image.len() / BLOCK_BYTES
+    }
 }
 
 // Whether an image of `size` bytes has 4 to 128 whole blocks.
+#[tactic(auto, using(std::proofs::lemmas::Bool::Decides::nat_tests), unfolding(crate::specs::Image::size_ok))]
 pub fn is_image(size: usize) -> bool
     ensures { result ≡ size_ok size }
 {
-    if size % BLOCK_BYTES != 0 {
-        return false;
-    }
-    if size < SMALLEST {
-        return false;
-    }
-    size <= LARGEST
+    size % BLOCK_BYTES == 0 && (SMALLEST..=LARGEST).contains(&size)
 }
 
 // What every call on an image under a key asks first: 1 the image, 2 the key.
-pub fn image_then_key(key: &[u8], image: &[u8]) -> u8
-    ensures { result ≡ image_then_key key.now image.now 0 }
+#[tactic(auto, unfolding(crate::specs::Image::image_then_key, crate::specs::Image::image_ok, aead::specs::Sealing::key_ok))]
+pub fn image_then_key(key: &[u8], image: &[u8]) -> Result<(), Refusal>
+    ensures { number_of result ≡ image_then_key key.now image.now 0 }
 {
     if !is_image(image.len()) {
-        return WRONG_IMAGE;
+        return Err(Refusal::WrongImage);
     }
     if key.len() != KEY_BYTES {
-        return WRONG_LENGTH;
+        return Err(Refusal::WrongLength);
     }
-    DONE
+    Ok(())
+}
+
+// ---- A header: the block's number, its kind, byte 5 and the count of bytes used.
+impl Kind {
+    // Bytes 4 and 5.
+    fn bytes(self) -> [u8; 2]
+        ensures { result ≡ kind_of (content_for self []) ∷ last_of (content_for self []) ∷ [] }
+    {
+        match self {
+            Kind::First(last) => [1, u8::from(last)],
+            Kind::More(last) => [2, u8::from(last)],
+            Kind::Mark => [3, 0],
+            Kind::End => [4, 0],
+        }
+    }
+
+    // The kind that bytes 4 and 5 say.
+    #[tactic(auto, unfolding(crate::specs::Steps::kind_said))]
+    fn said(kind: u8, last: u8) -> Option<Kind>
+        ensures { result ≡ kind_said kind last }
+    {
+        match kind {
+            1 if last <= 1 => Some(Kind::First(last == 1)),
+            2 if last <= 1 => Some(Kind::More(last == 1)),
+            3 if last == 0 => Some(Kind::Mark),
+            4 if last == 0 => Some(Kind::End),
+            _ => None,
+        }
+    }
+
+    // Whether it can have `used` bytes of payload.
+    fn fits(self, used: usize) -> bool
+        ensures { result ≡ fits_kind self used }
+    {
+        match self {
+            Kind::First(last) | Kind::More(last) => is_used(last, used),
+            Kind::Mark | Kind::End => used == 0,
+        }
+    }
+
+    // What opens as it.
+    fn seen(self, used: usize) -> Seen
+        ensures { result ≡ seen_as self used }
+    {
+        match self {
+            Kind::First(last) => Seen::First(last, used),
+            Kind::More(last) => Seen::More(last, used),
+            Kind::Mark => Seen::Mark,
+            Kind::End => Seen::End,
+        }
+    }
+}
+
+// How many bytes a record's block has: all where the record goes on, at least one in its last.
+#[tactic(auto, using(std::proofs::lemmas::Bool::Decides::nat_tests), unfolding(crate::specs::Format::used_ok))]
+fn is_used(last: bool, used: usize) -> bool
+    ensures { result ≡ used_ok (flag last) used }
+{
+    if last {
+        (1..=BLOCK_PAYLOAD).contains(&used)
+    } else {
+        used == BLOCK_PAYLOAD
+    }
+}
+
+#[tactic(auto, unfolding(crate::specs::Format::header))]
+fn header_of(p: u32, kind: Kind, used: u16) -> [u8; 8]
+    ensures { result ≡ header p (kind_of (content_for kind [])) (last_of (content_for kind [])) used }
+{
+    let [a, b, c, d] = p.to_be_bytes();
+    let [first, last] = kind.bytes();
+    let [high, low] = used.to_be_bytes();
+    [a, b, c, d, first, last, high, low]
+}
+
+fn number_in(part: &[u8]) -> u32
+    requires { 8 ≤ length part.now }
+    ensures { result ≡ number4 part.now 0 }
+{
+    u32::from_be_bytes([part[0], part[1], part[2], part[3]])
+}
+
+fn used_in(part: &[u8]) -> u16
+    requires { 8 ≤ length part.now }
+    ensures { result ≡ number2 part.now 6 }
+{
+    u16::from_be_bytes([part[6], part[7]])
+}
+
+#[tactic(auto, unfolding(crate::specs::Format::nonce_at))]
+fn nonce_at(id: u32, recording: u64, p: u32) -> [u8; NONCE_BYTES]
+    ensures { result ≡ nonce_at id recording p }
+{
+    let mut nonce = [0u8; NONCE_BYTES];
+    nonce[..4].copy_from_slice(&id.to_be_bytes());
+    nonce[4..12].copy_from_slice(&recording.to_be_bytes());
+    nonce[12..].copy_from_slice(&p.to_be_bytes());
+    nonce
 }
 
 // ---- Sealing.
-fn flag_number(last: bool) -> u8
-    ensures { result ≡ flag last }
-{
-    if last { 1 } else { 0 }
-}
-
-// The kind and byte 5 as the header has them.
-fn kind_number(kind: Kind) -> u8
-    ensures { result ≡ kind_of (content_for kind []) }
-{
-    match kind {
-        Kind::First(_) => 1,
-        Kind::More(_) => 2,
-        Kind::Mark => 3,
-        Kind::End => 4,
-    }
-}
-
-fn last_number(kind: Kind) -> u8
-    ensures { result ≡ last_of (content_for kind []) }
-{
-    match kind {
-        Kind::First(last) => flag_number(last),
-        Kind::More(last) => flag_number(last),
-        Kind::Mark => 0,
-        Kind::End => 0,
-    }
-}
-
-// Whether a payload of `used` bytes fits its kind.
-fn is_fit(kind: Kind, used: usize) -> bool
-    ensures { result ≡ fits_kind kind used }
-{
-    match kind {
-        Kind::First(last) => is_used(flag_number(last), used),
-        Kind::More(last) => is_used(flag_number(last), used),
-        Kind::Mark => used == 0,
-        Kind::End => used == 0,
-    }
-}
-
-fn nonce_at(id: u32, recording: u64, p: u32) -> [u8; 16]
-    ensures { result ≡ nonce_at id recording p }
-{
-    [
-        (id / 16777216 % 256) as u8,
-        (id / 65536 % 256) as u8,
-        (id / 256 % 256) as u8,
-        (id % 256) as u8,
-        (recording / 4294967296 / 16777216 % 256) as u8,
-        (recording / 4294967296 / 65536 % 256) as u8,
-        (recording / 4294967296 / 256 % 256) as u8,
-        (recording / 4294967296 % 256) as u8,
-        (recording / 16777216 % 256) as u8,
-        (recording / 65536 % 256) as u8,
-        (recording / 256 % 256) as u8,
-        (recording % 256) as u8,
-        (p / 16777216 % 256) as u8,
-        (p / 65536 % 256) as u8,
-        (p / 256 % 256) as u8,
-        (p % 256) as u8,
-    ]
-}
-
-fn header_of(p: u32, kind: u8, last: u8, used: usize) -> [u8; 8]
-    ensures { result ≡ header p kind last used }
-{
-    [
-        (p / 16777216 % 256) as u8,
-        (p / 65536 % 256) as u8,
-        (p / 256 % 256) as u8,
-        (p % 256) as u8,
-        kind,
-        last,
-        (used / 256 % 256) as u8,
-        (used % 256) as u8,
-    ]
-}
-
 // The bytes and zeros behind them, 488 in all.
 fn payload_of(bytes: &[u8]) -> [u8; BLOCK_PAYLOAD]
     requires { length bytes.now ≤ 488 }
@@ -157,18 +192,25 @@ fn payload_of(bytes: &[u8]) -> [u8; BLOCK_PAYLOAD]
 }
 
 // Lays the header and the sealed message over the first 512 bytes of `part`.
-fn seal_parts(key: &[u8], nonce: &[u8; 16], head: &[u8; 8], message: &[u8; 488], part: &mut [u8])
-    requires { (length key.now ≡ 24) × (512 ≤ length part.old) × (length nonce.now ≡ 16) ×
-        (length head.now ≡ 8) × (length message.now ≡ 488) }
-    ensures { part.new ≡ splice part.old 0
+fn seal_parts(
+    key: &[u8],
+    nonce: &[u8; NONCE_BYTES],
+    head: &[u8; 8],
+    message: &[u8; BLOCK_PAYLOAD],
+    part: &mut [u8],
+) -> Result<(), Refusal>
+    requires { (length key.now ≡ 24) × (512 ≤ length part.old) }
+    ensures done { number_of result ≡ 0 }
+    ensures bytes { part.new ≡ splice part.old 0
         (head.now ++ sealed key.now nonce.now head.now message.now) }
 {
     buffer::copy(part, head);
-    aead::seal(key, nonce, head, message, &mut part[8..BLOCK_BYTES]);
+    aead::seal(key, nonce, head, message, &mut part[8..BLOCK_BYTES])
 }
 
-// Seals a block at the front of `part`, and writes no byte beyond its 512. 2: a key or a part of a wrong length, or a payload that does not
-// fit its kind: 488 bytes where the record goes on, 1 to 488 in its last block, none for a mark or end of data. Refused, `part` stays.
+// Seals a block at the front of `part`, and writes no byte beyond its 512. The writer lends `part` to be written, so no
+// Cartridge can hold it. 2: a key or a part of a wrong length, or a payload that does not fit its kind: 488 bytes where
+// the record goes on, 1 to 488 in its last block, none for a mark or end of data. Refused, `part` stays.
 pub fn seal_block(
     key: &[u8],
     id: u32,
@@ -177,106 +219,49 @@ pub fn seal_block(
     kind: Kind,
     bytes: &[u8],
     part: &mut [u8],
-) -> u8
-    ensures { SealedAt key.now id recording p kind bytes.now part.old result
+) -> Result<(), Refusal>
+    ensures { SealedAt key.now id recording p kind bytes.now part.old (number_of result)
         part.new }
 {
     if key.len() != KEY_BYTES {
-        return WRONG_LENGTH;
+        return Err(Refusal::WrongLength);
     }
     if part.len() < BLOCK_BYTES {
-        return WRONG_LENGTH;
+        return Err(Refusal::WrongLength);
     }
-    if !is_fit(kind, bytes.len()) {
-        return WRONG_LENGTH;
+    if !kind.fits(bytes.len()) {
+        return Err(Refusal::WrongLength);
     }
     let nonce = nonce_at(id, recording, p);
-    let head = header_of(p, kind_number(kind), last_number(kind), bytes.len());
+    let head = header_of(p, kind, bytes.len() as u16);
     let message = payload_of(bytes);
-    seal_parts(key, &nonce, &head, &message, part);
-    DONE
+    seal_parts(key, &nonce, &head, &message, part)
 }
 
 // ---- Opening.
-fn wide(x: u8) -> usize
-    ensures { (result ≡ x) × (result < 256) }
+// Whether all bytes are zero. All of them are looked at, whatever the first ones hold.
+fn is_zero(bytes: &[u8]) -> bool
+    ensures { result ≡ all_zero bytes.now }
 {
-    x as usize
-}
-
-// The block number and the count of bytes used, as the header has them.
-fn number_in(part: &[u8]) -> usize
-    requires { 8 ≤ length part.now }
-    ensures { result ≡ number4 part.now 0 }
-{
-    wide(part[0]) * 16777216 + wide(part[1]) * 65536 + wide(part[2]) * 256 + wide(part[3])
-}
-
-fn used_in(part: &[u8]) -> usize
-    requires { 8 ≤ length part.now }
-    ensures { (result ≡ number2 part.now 6) × (result < 65536) }
-{
-    wide(part[6]) * 256 + wide(part[7])
-}
-
-// Whether all bytes from `from` on are zero. All of them are looked at, whatever the first ones hold.
-fn is_zero(bytes: &[u8], from: usize) -> bool
-    ensures { result ≡ all_zero (drop from bytes.now) }
-{
-    let mut any: u8 = 0;
-    let mut i = from;
-    while i < bytes.len() {
-        any = any | bytes[i];
-        i += 1;
+    let mut any = 0;
+    for byte in bytes {
+        any |= byte;
     }
     any == 0
-}
-
-// Whether byte 5 and the count of bytes used go together in a record's block.
-fn is_used(last: u8, used: usize) -> bool
-    ensures { result ≡ used_ok last used }
-{
-    if last == 0 {
-        return used == BLOCK_PAYLOAD;
-    }
-    if last != 1 {
-        return false;
-    }
-    if used < 1 {
-        return false;
-    }
-    used <= BLOCK_PAYLOAD
 }
 
 // What a header says of a payload whose unused bytes are zero.
 fn said(kind: u8, last: u8, used: usize) -> Seen
     ensures { result ≡ head_says kind last used }
 {
-    if kind == 1 {
-        if is_used(last, used) {
-            return Seen::First(last == 1, used);
-        }
+    let Some(kind) = Kind::said(kind, last) else {
         return Seen::Shut;
+    };
+    if kind.fits(used) {
+        kind.seen(used)
+    } else {
+        Seen::Shut
     }
-    if kind == 2 {
-        if is_used(last, used) {
-            return Seen::More(last == 1, used);
-        }
-        return Seen::Shut;
-    }
-    if last != 0 {
-        return Seen::Shut;
-    }
-    if used != 0 {
-        return Seen::Shut;
-    }
-    if kind == 3 {
-        return Seen::Mark;
-    }
-    if kind == 4 {
-        return Seen::End;
-    }
-    Seen::Shut
 }
 
 // What a header and an opened payload are; where that is unlawful, `out` becomes zero.
@@ -285,7 +270,7 @@ fn settle(kind: u8, last: u8, used: usize, out: &mut [u8]) -> Seen
     ensures says { result ≡ seen_of (content_of kind last used out.old) }
     ensures bytes { out.new ≡ payload (bytes_of (content_of kind last used out.old)) }
 {
-    if !is_zero(out, used) {
+    if !is_zero(&out[used.min(BLOCK_PAYLOAD)..]) {
         buffer::zero(out);
         return Seen::Shut;
     }
@@ -296,28 +281,35 @@ fn settle(kind: u8, last: u8, used: usize, out: &mut [u8]) -> Seen
     seen
 }
 
-// Opens the block at the front of `part` as block p, its payload into the 488 bytes of `out`; where it does not open, `out` is zero.
-// 2: a key, a part or an `out` of a wrong length. Refused, `out` stays.
-pub fn open_block(key: &[u8], id: u32, recording: u64, p: u32, part: &[u8], out: &mut [u8]) -> Seen
+// Opens the block at the front of `part` as block p, its payload into the 488 bytes of `out`; where it does not open,
+// `out` is zero. 2: a key, a part or an `out` of a wrong length. Refused, `out` stays.
+pub fn open_block(
+    key: &[u8],
+    id: u32,
+    recording: u64,
+    p: u32,
+    part: &[u8],
+    out: &mut [u8],
+) -> Result<Seen, Refusal>
     ensures { OpenedAt key.now id recording p part.now out.old result
         out.new }
 {
     if key.len() != KEY_BYTES {
-        return Seen::Refused(WRONG_LENGTH); // the key
+        return Err(Refusal::WrongLength); // the key
     }
     if part.len() < BLOCK_BYTES {
-        return Seen::Refused(WRONG_LENGTH);
+        return Err(Refusal::WrongLength);
     }
     if out.len() != BLOCK_PAYLOAD {
-        return Seen::Refused(WRONG_LENGTH);
+        return Err(Refusal::WrongLength);
     }
-    if number_in(part) != p as usize {
+    if number_in(part) != p {
         buffer::zero(out);
-        return Seen::Shut;
+        return Ok(Seen::Shut);
     }
     let nonce = nonce_at(id, recording, p);
-    if aead::open(key, &nonce, &part[..8], &part[8..BLOCK_BYTES], out) != DONE {
-        return Seen::Shut;
+    match aead::open(key, &nonce, &part[..8], &part[8..BLOCK_BYTES], out) {
+        Ok(()) => Ok(settle(part[4], part[5], usize::from(used_in(part)), out)),
+        Err(_) => Ok(Seen::Shut),
     }
-    settle(part[4], part[5], used_in(part), out)
 }

@@ -3,7 +3,7 @@
 use mathlib.Core.Path.{◌≡◌, ap₂, ◌∙◌}
 use mathlib.Core.Bool.{Bool}
 use mathlib.Core.List.{List}
-use Prim.Native.Nat.{ℕ, ◌+◌, ◌-◌, ◌*◌, ◌%◌, ◌<◌}
+use Prim.Native.Nat.{ℕ, ◌+◌, ◌-◌, ◌*◌, ◌/◌, ◌%◌, ◌<◌}
 use native.Mathlib.Omega.{arith}
 use lib.Dec.{T, lit<, eqb, eqb→eq}
 use lib.ListN.{length, get_or, set, length-set}
@@ -62,9 +62,17 @@ module _ (h l u v s w t o p q : ℕ) (bh : h < 16) (bl : l < 16)
   unfolding fits high_of low_of hi_in lo_in mid hi_out lo_out forth S table E E⁻ R xor
   goes = passes (λ x y. y + 16 * x) forth tt
 
-  pub comes : p + 16 * q ≡ back (h + 16 * l)
-  unfolding fits high_of low_of hi_in lo_in mid hi_out lo_out back S⁻ back_table E E⁻ R xor
-  comes = passes (λ x y. x + 16 * y) back tt
+-- ---- the same back, between two exchanges of the halves
+turns_over : ℕ → ℕ → Bool
+turns_over l h = eqb (forth (h + 16 * l) / 16 + 16 * (forth (h + 16 * l) % 16)) (back (l + 16 * h))
+
+pub comes : (l h p q : ℕ) → l < 16 → h < 16 → p < 16 → p + 16 * q ≡ forth (h + 16 * l) → q + 16 * p ≡ back (l + 16 * h)
+unfolding turns_over forth back S S⁻ table back_table xor
+comes l h p q bl bh bp e =
+    let f : ℕ = forth (h + 16 * l) in
+    let u : q ≡ f / 16 = omega arith in
+    let v : p ≡ f % 16 = omega arith in
+    ap₂ (λ (x y : ℕ). x + 16 * y) u v ∙ eqb→eq _ _ (tested₂ turns_over 16 16 tt l h bl bh)
 
 -- ---- a load
 pub read : (s : List ℕ) (at n : ℕ) (x : Four)

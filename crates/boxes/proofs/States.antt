@@ -20,12 +20,8 @@ use Rattle.pi.proofs.StateLaws.{places}
 use Rattle.planes.specs.Planes.{flipped, plus}
 use Rattle.gates.specs.Gates.{Same16, half}
 use Rattle.boxes.specs.declared.Both.{Both}
-use Rattle.boxes.specs.Boxes.{byte, forth, back, cell, quarter, stored}
+use Rattle.boxes.specs.Boxes.{byte, forth, back, cell, quarter, stored, Done, Columns}
 use Rattle.boxes.proofs.Columns.{stored_length, stored_on, stored_apart, cell_is}
-
--- the first j columns of q are those of s, each byte by B and each column turned by its count
-abbrev pub Done : (ℕ → ℕ) → (ℕ → ℕ) → List ℕ → List ℕ → ℕ → Type 0
-Done B turn s q j = (g : ℕ) → g < j → (i : ℕ) → i < 8 → cell q g i ≡ B (cell s g ((i + 8 - turn g) % 8))
 
 -- what the loop keeps
 abbrev pub SoFar : (ℕ → ℕ) → (ℕ → ℕ) → List ℕ → List ℕ → ℕ → Type 0
@@ -142,13 +138,13 @@ all_back s q d =
     (λ k h. d (k % 8) (omega arith) (k / 8) (omega arith)
     ∙ sym (sym (state_at _ k h) ∙ around S⁻ 0x26 0x5D (shift⁻ (flipped s)) k h ∙ ap back (state_at _ k h ∙ from_target s k h)))
 
--- as the loop leaves it
-module _ (s q : List ℕ) (j : ℕ) (e : j ≡ 8) where
-  done : (B turn : ℕ → ℕ) → SoFar B turn s q j → Done B turn s q 8
-  done B turn d = subst (Done B turn s q) e d.2
+-- as the loop leaves it, and what that makes of the state either way
+pub done : (B turn : ℕ → ℕ) (s q : List ℕ) (j : ℕ) → j ≡ 8 → SoFar B turn s q j → Columns B turn s q
+done B turn s q j e d = (d.1, subst (Done B turn s q) e d.2)
 
-  pub done_forth : SoFar forth (λ j. j) s q j → (length q ≡ 64) × (flipped q ≡ shift (plus 0xD5 (substitute (plus 0x62 (flipped s)))))
-  done_forth d = (d.1, all_forth s q (done forth (λ j. j) d))
+module _ (s q : List ℕ) where
+  pub done_forth : Columns forth (λ j. j) s q → (length q ≡ 64) × (flipped q ≡ shift (plus 0xD5 (substitute (plus 0x62 (flipped s)))))
+  done_forth d = (d.0, all_forth s q d.1)
 
-  pub done_back : SoFar back (λ j. (8 - j) % 8) s q j → (length q ≡ 64) × (flipped q ≡ plus 0x5D (substitute⁻ (plus 0x26 (shift⁻ (flipped s)))))
-  done_back d = (d.1, all_back s q (done back (λ j. (8 - j) % 8) d))
+  pub done_back : Columns back (λ j. (8 - j) % 8) s q → (length q ≡ 64) × (flipped q ≡ plus 0x5D (substitute⁻ (plus 0x26 (shift⁻ (flipped s)))))
+  done_back d = (d.0, all_back s q d.1)

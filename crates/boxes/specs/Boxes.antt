@@ -1,5 +1,5 @@
 -- The substitution on planes of bits, without a lookup: the circuits compute x to S (x + 62) + D5, which sends 0 to 0 and needs no NOT.
-use Rattle.std.specs.Prelude.{List, ℕ, ◌+◌, ◌*◌, ◌/◌, ◌%◌, ◌^◌, get_or, set}
+use Rattle.std.specs.Prelude.{◌≡◌, List, ℕ, ◌+◌, ◌-◌, ◌*◌, ◌/◌, ◌%◌, ◌^◌, ◌<◌, length, get_or, set}
 use Rattle.laws.specs.Xor.{xor}
 use Rattle.pi.specs.Table.{S, S⁻}
 use Rattle.planes.specs.Planes.{bit, byte_by}
@@ -32,3 +32,10 @@ turned_by k x = x * 2 ^ k % 65536 / 256 % 256
 unfoldable pub stored : List ℕ → ℕ → ℕ → Four → List ℕ
 stored q at k x =
     set (set (set (set q at (turned_by k x.p0)) (at + 8) (turned_by k x.p1)) (at + 16) (turned_by k x.p2)) (at + 24) (turned_by k x.p3)
+
+-- ---- q holds the columns of s, each byte by B and column g turned by `turn g`: the first j of them, and all eight
+abbrev pub Done : (ℕ → ℕ) → (ℕ → ℕ) → List ℕ → List ℕ → ℕ → Type 0
+Done B turn s q j = (g : ℕ) → g < j → (i : ℕ) → i < 8 → cell q g i ≡ B (cell s g ((i + 8 - turn g) % 8))
+
+abbrev pub Columns : (ℕ → ℕ) → (ℕ → ℕ) → List ℕ → List ℕ → Type 0
+Columns B turn s q = (length q ≡ 64) × Done B turn s q 8

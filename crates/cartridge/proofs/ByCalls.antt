@@ -1,12 +1,14 @@
--- Demand 3 at the calls: a run by the writer's promises is the run of the definitions, and a walk by calls of `read` hands out what the walk
--- of the definitions does, in as many reads.
+-- Demand 3 at the calls: a run by the writer's promises is the run of the definitions, and a walk by calls of `read`
+-- hands out what the walk of the definitions does, in as many reads.
 -- Assumes nothing.
 use mathlib.Core.Path.{◌≡◌, refl, sym, ap, ap₂, ◌∙◌, subst}
-use mathlib.Core.Bool.{Bool, true, false}
+use mathlib.Core.Bool.{true, false}
 use mathlib.Core.List.{List, [], ◌∷◌, ◌++◌, append_assoc}
 use Prim.Native.Nat.{ℕ, suc, ◌+◌, ◌-◌, ◌≤◌, ◌<◌}
 use native.Mathlib.Omega.{arith}
 use borrow.Author.Tests.{eq-eqb, le-leb, lt-ltb}
+use Rattle.std.specs.Prelude.{Result, Ok}
+use Rattle.numbers.specs.declared.Refusal.{Refusal}
 use lib.ListN.{length, take, drop, replicate, length-append}
 use lib.Seq.{take_at}
 use Rattle.laws.specs.Lists.{splice}
@@ -16,17 +18,18 @@ use Rattle.writer.specs.declared.WriterState.{WriterState}
 use Rattle.writer.specs.declared.Reply.TheVariants.{Plain}
 use Rattle.writer.specs.declared.Wrote.{Wrote}
 use Rattle.writer.specs.Items.{Item}
-use Rattle.writer.specs.Writing.{Done, Did}
+use Rattle.writer.specs.Writing.{Did}
+use Rattle.reader.specs.declared.Outcome.{Outcome}
 use Rattle.reader.specs.declared.Outcome.TheVariants as o
 use Rattle.reader.specs.declared.Got.{Got}
 use Rattle.reader.specs.Walk.{Told, Record, Mark, End, Bad, Stray, Cut, is_end, read_at, walk_from, walk}
 use Rattle.reader.specs.Reading.{read_number, read_answer, outcome_of, got_of, filled, Read, part_of}
 use Rattle.reader.proofs.GatherLaws.{filled_least}
 use Rattle.reader.proofs.WalkLaws.{read_onward, walk_from_over, walk_from_step}
-use Rattle.cartridge.specs.Chain.{Call, call, took, chain, accepted, AllCallBytes, Setup, Run, begun, left, items, shown, Proper}
+use Rattle.cartridge.specs.Chain.{Call, call, took, chain, accepted, AllCallBytes, Run, begun, left, items, Proper}
 use Rattle.cartridge.specs.Handed.{Handed, hands_out, handed}
 use Rattle.cartridge.specs.Recovered.{spoiled, intact, Damaged}
-use Rattle.cartridge.specs.ByCalls.{Writes, last, next, taken_by, Step, step, Reads, over, stop, goes, in_hand, all_in_hand}
+use Rattle.cartridge.specs.ByCalls.{Writes, last, next, taken_by, Step, Reads, over, stop, goes, in_hand, all_in_hand}
 use Rattle.cartridge.proofs.Made.{made}
 use Rattle.cartridge.proofs.CanBeMet.{image_holds}
 use Rattle.cartridge.proofs.Demand3.{demand_3}
@@ -46,8 +49,8 @@ chained {key} {s} {s''} {image} {image''} (next {image' = image'} {x = x} {xs = 
     let j = subst (λ (b : List ℕ). AsChained key d.state b xs ws s'' image'') c.leaves i in
     record { state = j.state; bytes = j.bytes; taken = ap₂ (λ (v : Wrote) (is : List Item). took v.reply x ++ is) c.says j.taken }
 
--- a start that was taken and the calls behind it are a run: `w₀` and `z` are what the start answered and left, `ws` what the calls answered,
--- `s` and `was` the state and image at their end
+-- a start that was taken and the calls behind it are a run: `w₀` and `z` are what the start answered and left, `ws`
+-- what the calls answered, `s` and `was` the state and image at their end
 pub record AsRun (r : Run) (ws : List Wrote) (s : WriterState) (was : List ℕ) : Type 0 where
   pub proper : Proper r
   pub state : s ≡ (left r).state
@@ -55,7 +58,7 @@ pub record AsRun (r : Run) (ws : List Wrote) (s : WriterState) (was : List ℕ) 
   pub taken : taken_by r.calls ws ≡ items r
 
 pub as_run : (r : Run) {w₀ : Wrote} {z : List ℕ} {ws : List Wrote} {s : WriterState} {was : List ℕ} → Did (begun r.setup) w₀ z
-    → w₀.reply ≡ Plain → AllCallBytes r.calls → Writes r.setup.key w₀.state z r.calls ws s was → AsRun r ws s was
+    → w₀.reply ≡ Ok Plain → AllCallBytes r.calls → Writes r.setup.key w₀.state z r.calls ws s was → AsRun r ws s was
 as_run r {w₀} {z} {ws} {s} {was} c e b ch =
     let a = r.setup in
     let i = subst (λ (v : Wrote). AsChained a.key v.state z r.calls ws s was) c.says (chained ch) in
@@ -85,7 +88,7 @@ part_is b d =
     let h : length d ≤ length (splice b 0 (d ++ z)) = omega (arith, ap length e ∙ length-append d (z ++ t)) in
     rw (le-leb (length d) (length (splice b 0 (d ++ z))) h) (ap (take (length d)) e ∙ take_at d (z ++ t) (length d) refl)
 
-hand_is : (p : ℕ) (t : Told) (b : List ℕ) → in_hand p (outcome_of t) (splice b 0 (filled t)) ≡ hands_out p t
+hand_is : (p : ℕ) (t : Told) (b : List ℕ) → in_hand p (Ok (outcome_of t)) (splice b 0 (filled t)) ≡ hands_out p t
 hand_is p (Record d) b = rw (part_is b d)
 hand_is p Mark b = refl
 hand_is p End b = refl
@@ -94,7 +97,7 @@ hand_is p Stray b = refl
 hand_is p (Cut q) b = refl
 
 -- ---- End
-ends : (t : Told) → outcome_of t ≡ o.End → is_end t ≡ true
+ends : (t : Told) → ◌≡◌ {A = Result Outcome Refusal} (Ok (outcome_of t)) (Ok o.End) → is_end t ≡ true
 ends (Record b) e = cc
 ends Mark e = cc
 ends End e = refl
@@ -102,7 +105,7 @@ ends Bad e = cc
 ends Stray e = cc
 ends (Cut q) e = cc
 
-not_ends : (t : Told) → (outcome_of t ≡ o.End → ⊥) → is_end t ≡ false
+not_ends : (t : Told) → (◌≡◌ {A = Result Outcome Refusal} (Ok (outcome_of t)) (Ok o.End) → ⊥) → is_end t ≡ false
 not_ends (Record b) e = refl
 not_ends Mark e = refl
 not_ends End e = absurd (e refl)
@@ -156,7 +159,7 @@ same_size now was e h = rw e h
 
 -- ---- demand 3, said of the calls; `xs` are the calls of `read` over `now`
 pub demand_3_by_calls : (r : Run) {w₀ : Wrote} {z : List ℕ} {ws : List Wrote} {s : WriterState} {was : List ℕ}
-    → Did (begun r.setup) w₀ z → w₀.reply ≡ Plain → AllCallBytes r.calls → Writes r.setup.key w₀.state z r.calls ws s was
+    → Did (begun r.setup) w₀ z → w₀.reply ≡ Ok Plain → AllCallBytes r.calls → Writes r.setup.key w₀.state z r.calls ws s was
     → s.closed ≡ true → length r.setup.key ≡ 24 → (now : List ℕ) → Damaged r now
     → (buffer : List ℕ) → 31232 ≤ length buffer → (xs : List Step) → Reads r.setup.key r.setup.id r.setup.recording now 0 buffer xs
     → (all_in_hand xs ≡ intact (spoiled was now) 0 (taken_by r.calls ws)) × (length xs ≤ capacity_of now)

@@ -1,24 +1,28 @@
--- The hypotheses of demand 3 can be met: under a key of 24 bytes every run can be closed, and a block of zeros is damage that it admits.
+-- The hypotheses of demand 3 can be met: under a key of 24 bytes every run can be closed, and a block of zeros is
+-- damage that it admits.
 -- Assumes nothing.
 use borrow.Author.Tests.{eq-eqb, le-leb, lt-ltb}
 use mathlib.Core.Path.{◌≡◌, refl, sym, ap, ◌∙◌, subst}
 use mathlib.Core.Logic.{◌⊎◌, ⊎_elim}
 use mathlib.Core.Bool.{Bool, true, false}
 use mathlib.Core.List.{List, [], ◌∷◌, ◌++◌}
-use Prim.Native.Nat.{ℕ, zero, suc, ◌%◌, ◌<◌}
+use Prim.Native.Nat.{ℕ, ◌%◌, ◌<◌}
 use native.Mathlib.Omega.{arith}
 use lib.ListN.{length, replicate}
 use Rattle.block.specs.Content.{Shut}
 use Rattle.block.specs.Format.{open_block}
 use Rattle.block.specs.Image.{block_at, capacity_of, size_ok, image_ok, view}
 use Rattle.block.proofs.RoundTrip.{zeros_shut}
+use Rattle.numbers.specs.Refusals.{number_of}
+use Rattle.writer.specs.declared.Reply.{Reply}
 use Rattle.writer.specs.declared.WriterState.{WriterState}
 use Rattle.writer.specs.Items.{Item}
-use Rattle.writer.specs.Writing.{reply_number, Done, zone_ok, place_ok, close, close_number, judged, ended}
+use Rattle.writer.specs.Writing.{zone_ok, place_ok, close, close_number, ended}
+use Rattle.writer.proofs.Judged.{judged_either}
 use Rattle.writer.proofs.InOrder.{all_marks_fit}
 use Rattle.writer.proofs.Ready.{Ready, lawful_holds}
-use Rattle.writer.proofs.Rules.{room_for_closing, closing_moves_by_1, close_number_lem, close_when}
-use Rattle.cartridge.specs.Chain.{Call, closing, call, chain, Setup, Run, begun, left, items, shown, Proper}
+use Rattle.writer.proofs.Rules.{room_for_closing, closing_moves_by_1}
+use Rattle.cartridge.specs.Chain.{Call, closing, call, chain, Setup, Run, begun, left, items, Proper}
 use Rattle.cartridge.specs.Recovered.{Damaged}
 use Rattle.cartridge.proofs.Made.{Made, made}
 
@@ -55,18 +59,12 @@ module _ (a : Setup) (s : WriterState) (img : List ℕ) (is : List Item) (m : Ma
 
   -- so a closing leaves it closed, whether it was or not
   ends_closed : (close s a.key img).state.closed ≡ true
+  unfolding close
   ends_closed = go s.closed refl
     where
       go : (t : Bool) → s.closed ≡ t → (close s a.key img).state.closed ≡ true
-      go false o = ap (λ (x : WriterState). x.closed) (closing_moves_by_1 s a.key img (ap reply_number (room_for_closing s a.key img (ready o)).0))
-      go true o = refused (close_number s a.key img) refl
-        where
-          stays : (n : ℕ) → (judged (ended s a.key img) s img n).state.closed ≡ true
-          stays zero = refl
-          stays (suc n) = o
-
-          refused : (n : ℕ) → close_number s a.key img ≡ n → (close s a.key img).state.closed ≡ true
-          refused n e = ap (λ (d : Done). d.state.closed) (close_when s a.key img n (close_number_lem s a.key img ∙ e)) ∙ stays n
+      go false o = ap (λ (x : WriterState). x.closed) (closing_moves_by_1 s a.key img (ap (number_of {A = Reply}) (room_for_closing s a.key img (ready o)).0))
+      go true o = judged_either (ended s a.key img) s img (λ d. d.state.closed ≡ true) (λ k. o) (close_number s a.key img) (λ e. refl)
 
 -- a closing behind any calls
 abbrev pub then_closed : Run → Run

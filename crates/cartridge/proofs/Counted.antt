@@ -1,5 +1,5 @@
--- The file number: the file marks that the writer's state has counted are those that a walk over the image as it stands meets, and so those
--- that the report counts there.
+-- The file number: the file marks that the writer's state has counted are those that a walk over the image as it stands
+-- meets, and so those that the report counts there.
 -- Assumes nothing.
 use mathlib.Core.Path.{◌≡◌, refl, sym, ap, ◌∙◌}
 use mathlib.Core.List.{List, [], ◌∷◌, ◌++◌}
@@ -7,6 +7,8 @@ use Prim.Native.Nat.{ℕ, zero, suc, ◌+◌}
 use native.Mathlib.Omega.{arith}
 use lib.Dec.{eqb}
 use lib.ListN.{length}
+use Rattle.std.specs.Prelude.{Result, Ok}
+use Rattle.numbers.specs.declared.Refusal.{Refusal}
 use Rattle.laws.specs.Choose.{pick}
 use Rattle.laws.proofs.ListLaws.{listed_seen}
 use Rattle.block.specs.Image.{capacity_of}
@@ -21,7 +23,7 @@ use Rattle.writer.proofs.Ready.{item_fits, close_ready}
 use Rattle.reader.specs.Walk.{Told, Record, Mark, End, Bad, Stray, Cut, Visit, walk}
 use Rattle.survey.specs.Marks.{how_many}
 use Rattle.survey.specs.declared.Tally.{Tally}
-use Rattle.survey.specs.Report.{outcomes, place_of, report_number, report_of}
+use Rattle.survey.specs.Report.{outcomes, place_of, counts_of, report_number, report_of}
 use Rattle.survey.proofs.ReportLaws.{report_counts, report_refused}
 use Rattle.cartridge.specs.Chain.{Call, item, closing, call, chain, AllCallBytes, Run, begun, left, items, shown, Proper}
 use Rattle.cartridge.specs.ByCalls.{Writes}
@@ -60,11 +62,11 @@ marks_walked r p =
     sym (walk_marks w) ∙ ap handed_marks (nothing_lost r p) ∙ placed_marks (items r) 0
 
 pub marks_reported : (r : Run) → Proper r → let a = r.setup in report_number a.key (left r).image ≡ 0
-    → (report_of a.key a.id a.recording (left r).image).marks ≡ file_marks_in (items r)
+    → (counts_of (report_of a.key a.id a.recording (left r).image)).marks ≡ file_marks_in (items r)
 marks_reported r p e =
     let a = r.setup in
     let w = walk (shown a (left r).image) (capacity_of (left r).image) in
-    ap (λ (t : Tally). t.marks) (report_counts a.key a.id a.recording (left r).image e)
+    ap (λ (x : Result Tally Refusal). (counts_of x).marks) (report_counts a.key a.id a.recording (left r).image e)
     ∙ listed_seen outcomes (λ k. how_many k w) 1 (omega arith) ∙ marks_walked r p
 
 -- ---- the writer's number is the walk's: after the start and any calls, taken or refused, closed or still open
@@ -89,7 +91,7 @@ chain_keyless key s image (x ∷ xs) n =
 -- and it is the report's. Refused, which is under a key of another length, the report counts nothing
 module _ (r : Run) (p : Proper r) where
   abbrev reports : Tally
-  reports = report_of r.setup.key r.setup.id r.setup.recording (left r).image
+  reports = counts_of (report_of r.setup.key r.setup.id r.setup.recording (left r).image)
 
   refused_keyless : (report_number r.setup.key (left r).image ≡ 0 → ⊥) → length r.setup.key ≡ 24 → ⊥
   unfolding report_number
@@ -104,7 +106,7 @@ module _ (r : Run) (p : Proper r) where
   refused_number n =
       let a = r.setup in
       ap (λ (s : WriterState). s.marks) (chain_keyless a.key (begun a).state (begun a).image r.calls (refused_keyless n)) ∙ begins_at_0
-      ∙ sym (ap (λ (t : Tally). t.marks) (report_refused a.key a.id a.recording (left r).image n))
+      ∙ sym (ap (λ (x : Result Tally Refusal). (counts_of x).marks) (report_refused a.key a.id a.recording (left r).image n))
 
   pub file_number_reported : (left r).state.marks ≡ reports.marks
   file_number_reported = go (report_number r.setup.key (left r).image) refl
@@ -115,8 +117,8 @@ module _ (r : Run) (p : Proper r) where
 
 -- ---- said of the calls: a start that was taken, and the state and image that the calls behind it left
 pub file_number_by_calls : (r : Run) {w₀ : Wrote} {z : List ℕ} {ws : List Wrote} {s : WriterState} {was : List ℕ}
-    → Did (begun r.setup) w₀ z → w₀.reply ≡ Plain → AllCallBytes r.calls → Writes r.setup.key w₀.state z r.calls ws s was
+    → Did (begun r.setup) w₀ z → w₀.reply ≡ Ok Plain → AllCallBytes r.calls → Writes r.setup.key w₀.state z r.calls ws s was
     → let a = r.setup in
-    (s.marks ≡ how_many 1 (walk (shown a was) (capacity_of was))) × (s.marks ≡ (report_of a.key a.id a.recording was).marks)
+    (s.marks ≡ how_many 1 (walk (shown a was) (capacity_of was))) × (s.marks ≡ (counts_of (report_of a.key a.id a.recording was)).marks)
 file_number_by_calls r c e b ch =
     let j = as_run r c e b ch in rw (j.state, j.bytes) (file_number r j.proper, file_number_reported r j.proper)

@@ -1,5 +1,5 @@
--- Demand 3: an image written by our writer from start to closing mark, then spoiled. A walk hands out every record and mark whose blocks
--- are unspoiled, once, in order, as written, and nothing else, in no more reads than blocks.
+-- Demand 3: an image written by our writer from start to closing mark, then spoiled. A walk hands out every record and
+-- mark whose blocks are unspoiled, once, in order, as written, and nothing else, in no more reads than blocks.
 -- Assumes nothing.
 use mathlib.Core.Path.{◌≡◌, refl, sym, ap, ◌∙◌, subst}
 use mathlib.Core.Bool.{Bool, true, false, false≢true}
@@ -19,7 +19,7 @@ use Rattle.cartridge.specs.Chain.{Run, left, items, shown, Proper}
 use Rattle.cartridge.specs.Handed.{Handed, hand, handed}
 use Rattle.cartridge.specs.Recovered.{spoiled, whole, intact, Damaged, Recovered}
 use Rattle.cartridge.proofs.Survive.{Spoiled, survive}
-use Rattle.cartridge.proofs.Made.{Made, made}
+use Rattle.cartridge.proofs.Made.{made}
 
 -- damage to an image's bytes, as its views show it
 damage : (r : Run) (now : List ℕ) → Damaged r now
@@ -55,8 +55,8 @@ recovered r p now d =
     at_most is true h e = omega arith
     at_most is false h e = omega arith
 
--- for every key, id, recording, zone, image to start from and chain that ends closed, and for every image of the same length in which each
--- block has its bytes or does not open at its place
+-- for every key, id, recording, zone, image to start from and chain that ends closed, and for every image of the same
+-- length in which each block has its bytes or does not open at its place
 pub demand_3 : (r : Run) → Proper r → (left r).state.closed ≡ true → (now : List ℕ) → Damaged r now → Recovered r now
 demand_3 r p k now d = recovered r p now d
 

@@ -3,7 +3,7 @@
 use mathlib.Core.Path.{◌≡◌, refl, ap, ◌∙◌}
 use mathlib.Core.Bool.{Bool, true, false, true≢false, false≢true}
 use mathlib.Core.List.{List, [], ◌∷◌, ◌++◌, append-nil, append_assoc}
-use Prim.Native.Nat.{ℕ, zero, suc, ◌+◌, ◌-◌, ◌*◌, ◌≤◌, ◌<◌, min}
+use Prim.Native.Nat.{ℕ, zero, suc, ◌+◌, ◌-◌, ◌≤◌, ◌<◌, min}
 use native.Mathlib.Nat.{add-suc, suc-add, add-zero, add_assoc}
 use native.Mathlib.Omega.{arith}
 use native.Mathlib.Numerals.{add-one}
@@ -93,25 +93,23 @@ read_no_end v c p h = go (v p) h
     go (head mark) h = refl
     go (head eod) h = absurd (true≢false h)
 
+-- a block that does not open
+is_shut : (o : Content) → Shut o → o ≡ shut
+is_shut shut h = refl
+is_shut (more l b) h = absurd h
+is_shut (head x) h = absurd h
+
 shut_inside : (o : Content) (p q : ℕ) (acc : List ℕ) (k : List ℕ → Answer) → Shut o → hands_out p (inside o q acc k).told ≡ []
-shut_inside shut p q acc k h = refl
-shut_inside (more l b) p q acc k h = absurd h
-shut_inside (head x) p q acc k h = absurd h
+shut_inside o p q acc k h = rw (is_shut o h)
 
 shut_between : (o : Content) (v : View) (c p : ℕ) → Shut o → hands_out p (between o v c p).told ≡ []
-shut_between shut v c p h = refl
-shut_between (more l b) v c p h = absurd h
-shut_between (head x) v c p h = absurd h
+shut_between o v c p h = rw (is_shut o h)
 
 shut_quiet : (o : Content) → Shut o → Quiet o
-shut_quiet shut h = tt
-shut_quiet (more l b) h = absurd h
-shut_quiet (head x) h = absurd h
+shut_quiet o h = rw (is_shut o h) tt
 
 shut_no_eod : (o : Content) → Shut o → is_eod o ≡ false
-shut_no_eod shut h = refl
-shut_no_eod (more l b) h = absurd h
-shut_no_eod (head x) h = absurd h
+shut_no_eod o h = rw (is_shut o h)
 
 -- the record's read from its second block on
 gather_broken : (xs : List (List ℕ)) (x : List ℕ) (room : ℕ) (sp : ℕ → Bool) (v : View) (p q : ℕ) (acc : List ℕ) → ShowsBut Shut sp v q (following (x ∷ xs))

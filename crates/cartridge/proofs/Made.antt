@@ -7,6 +7,7 @@ use mathlib.Core.List.{List, [], ◌∷◌, ◌++◌, append-nil, append_assoc}
 use Prim.Native.Nat.{ℕ, zero, suc, ◌+◌, ◌-◌, ◌*◌, ◌≤◌, ◌<◌}
 use native.Mathlib.Nat.{zero-add, add-zero, add-suc, suc-add}
 use native.Mathlib.Omega.{arith}
+use Rattle.std.specs.Prelude.{Ok}
 use lib.ListN.{length, drop, replicate, length-replicate, length-take, length-drop}
 use lib.Seq.{length-take-le}
 use Rattle.laws.specs.Choose.{pick, first_of}
@@ -21,9 +22,9 @@ use Rattle.block.proofs.RoundTrip.{zeros_shut}
 use Rattle.writer.specs.declared.WriterState.{WriterState}
 use Rattle.writer.specs.declared.Reply.TheVariants.{Plain}
 use Rattle.writer.specs.Items.{Item, rec, fmark, blocks_for, size, pieces, following, recorded, blocks, layout, sizes, file_marks, file_marks_in}
-use Rattle.writer.specs.Writing.{Done, moved, answer_at, judged, taken, ended, started, refused_state, zone_ok, start_number, item_number, close_number, start, write, close}
+use Rattle.writer.specs.Writing.{Done, moved, judged, taken, ended, started, refused_state, zone_ok, start_number, item_number, close_number, start, write, close}
 use Rattle.writer.proofs.Pieces.{length_blocks}
-use Rattle.writer.proofs.Warned.{either_answer}
+use Rattle.writer.proofs.Judged.{judged_either}
 use Rattle.writer.proofs.Ready.{Sound, AllSound, sound, item_fits, close_ready, zoned}
 use Rattle.writer.proofs.InOrder.{length_layout, sizes_snoc, layout_snoc, marks_snoc, sound_snoc}
 use Rattle.cartridge.specs.Chain.{Call, item, closing, call, took, chain, accepted, ItemBytes, CallBytes, AllCallBytes}
@@ -76,8 +77,8 @@ lay_blank key n r img c p bs hl hr k q a b =
     subst Shut (ap (open_block key n r q) (sym (lay_else key n r bs img p q (omega arith) (inr a)))) (k q (omega arith) b)
 
 -- ---- what holds after each call of a chain
--- The state s and the image are what accepted items `is` leave: position is their blocks, plus one once closed; the file marks are those
--- among them; the image opens as their blocks, then end of data once closed, then nothing.
+-- The state s and the image are what accepted items `is` leave: position is their blocks, plus one once closed; the
+-- file marks are those among them; the image opens as their blocks, then end of data once closed, then nothing.
 pub record Made (a : Setup) (s : WriterState) (img : List ℕ) (is : List Item) : Type 0 where
   pub named : s.id ≡ a.id
   pub numbered : s.recording ≡ a.recording
@@ -157,32 +158,25 @@ module _ (a : Setup) (s : WriterState) (img : List ℕ) (is : List Item) (m : Ma
       }
 
 -- ---- a call
-took_answered : (i : Item) (s : WriterState) (p : ℕ) → took (answer_at s p) (item i) ≡ i ∷ []
-took_answered i = either_answer (λ a. took a (item i) ≡ i ∷ []) refl refl
-
 module _ (a : Setup) (s : WriterState) (img : List ℕ) (is : List Item) (m : Made a s img is) where
-  made_write : (i : Item) → ItemBytes i → let d = write s a.key img i in Made a d.state d.image (is ++ took d.reply (item i))
+  abbrev MadeBy : Call → Done → Type 0
+  MadeBy x d = Made a d.state d.image (is ++ took d.reply x)
+
+  made_write : (i : Item) → ItemBytes i → MadeBy (item i) (write s a.key img i)
   unfolding write
-  made_write i b = go (item_number s a.key img i) refl
-    where
-      go : (k : ℕ) → item_number s a.key img i ≡ k
-          → let d = judged (taken s a.key img i) s img k in Made a d.state d.image (is ++ took d.reply (item i))
-      go zero e =
-          let f = item_fits s a.key img i e in
-          rw (took_answered i s (s.position + size i))
-          (made_item a s img is m f.ready.is_open i (sound i f.length_holds) b (let h = f.room_ok in omega arith))
-      go (suc k) e = rw append-nil m
+  made_write i b =
+      judged_either (taken s a.key img i) s img (MadeBy (item i)) (λ k. rw append-nil m) (item_number s a.key img i) (λ e.
+      let f = item_fits s a.key img i e in
+      let h = f.room_ok in
+      made_item a s img is m f.ready.is_open i (sound i f.length_holds) b (omega arith))
 
-  made_closing : let d = close s a.key img in Made a d.state d.image (is ++ took d.reply closing)
+  made_closing : MadeBy closing (close s a.key img)
   unfolding close
-  made_closing = go (close_number s a.key img) refl
-    where
-      go : (k : ℕ) → close_number s a.key img ≡ k
-          → let d = judged (ended s a.key img) s img k in Made a d.state d.image (is ++ took d.reply closing)
-      go zero e = rw append-nil (made_close a s img is m (close_ready s a.key img e).is_open)
-      go (suc k) e = rw append-nil m
+  made_closing =
+      judged_either (ended s a.key img) s img (MadeBy closing) (λ k. rw append-nil m) (close_number s a.key img)
+      (λ e. rw append-nil (made_close a s img is m (close_ready s a.key img e).is_open))
 
-  pub made_call : (x : Call) → CallBytes x → let d = call a.key s img x in Made a d.state d.image (is ++ took d.reply x)
+  pub made_call : (x : Call) → CallBytes x → MadeBy x (call a.key s img x)
   made_call (item i) b = made_write i b
   made_call closing b = made_closing
 
@@ -198,14 +192,14 @@ zeros_blank : (key : List ℕ) (n r c l : ℕ) → l ≡ 512 * c → Blank (view
 unfolding Blank view
 zeros_blank key n r c l e p a b = rw e (subst Shut (ap (open_block key n r p) (sym (block_zeros c p b))) (zeros_shut key n r p))
 
-made_start : (a : Setup) → (begun a).reply ≡ Plain → Made a (begun a).state (begun a).image []
+made_start : (a : Setup) → (begun a).reply ≡ Ok Plain → Made a (begun a).state (begun a).image []
 unfolding start start_number
 made_start a h = go (image_ok a.fresh) (zone_ok (capacity_of a.fresh) a.zone) refl refl h
   where
     gives : ℕ → Done
     gives n = judged (started a.id a.recording a.zone a.fresh) refused_state a.fresh n
 
-    go : (t z : Bool) → image_ok a.fresh ≡ t → zone_ok (capacity_of a.fresh) a.zone ≡ z → (gives (first_of t 1 (first_of z 3 0))).reply ≡ Plain
+    go : (t z : Bool) → image_ok a.fresh ≡ t → zone_ok (capacity_of a.fresh) a.zone ≡ z → (gives (first_of t 1 (first_of z 3 0))).reply ≡ Ok Plain
         → Made a (gives (first_of t 1 (first_of z 3 0))).state (gives (first_of t 1 (first_of z 3 0))).image []
     go false z f g q = absurd (let x : ◌≡◌ {A = ℕ} 0 1 = cc in omega arith)
     go true false f g q = absurd (let x : ◌≡◌ {A = ℕ} 0 1 = cc in omega arith)

@@ -1,5 +1,5 @@
--- What a walk hands out is what a read at each place in turn would hand out, up to the first end of data: a walk passes over
--- nothing but blocks at which a read answers Bad or Stray. This holds of every view.
+-- What a walk hands out is what a read at each place in turn would hand out, up to the first end of data: a walk passes
+-- over nothing but blocks at which a read answers Bad or Stray. This holds of every view.
 -- Assumes nothing.
 use mathlib.Core.Path.{◌≡◌, refl, sym, ap, ◌∙◌}
 use mathlib.Core.Bool.{Bool, true, false}

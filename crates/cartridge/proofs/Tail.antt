@@ -1,5 +1,5 @@
--- The tail of the reel: with no damage the walk is the accepted items, each at its place, and then End at the closing mark; and a record
--- that was refused leaves the cartridge closable.
+-- The tail of the reel: with no damage the walk is the accepted items, each at its place, and then End at the closing
+-- mark; and a record that was refused leaves the cartridge closable.
 -- Assumes nothing.
 use mathlib.Core.Path.{◌≡◌, refl, ap}
 use mathlib.Core.Bool.{true, false}
@@ -11,9 +11,11 @@ use lib.ListN.{length}
 use Rattle.block.specs.Image.{View, capacity_of}
 use Rattle.block.proofs.ImageLaws.{Stands}
 use Rattle.writer.specs.declared.WriterState.{WriterState}
+use Rattle.std.specs.Prelude.{Ok}
+use Rattle.numbers.specs.Refusals.{number_of}
 use Rattle.writer.specs.declared.Reply.TheVariants.{Plain}
 use Rattle.writer.specs.Items.{Item, rec, fmark, size, blocks, sizes}
-use Rattle.writer.specs.Writing.{reply_number, write, close}
+use Rattle.writer.specs.Writing.{write, close}
 use Rattle.writer.proofs.Pieces.{length_blocks}
 use Rattle.writer.proofs.Ready.{Ready, AllSound}
 use Rattle.writer.proofs.InOrder.{size_pos}
@@ -55,6 +57,6 @@ whole_walk r p k =
     walk_closed (items r) (shown r.setup was) c 0 c m.all_sound (rw k at m.stands) (omega arith) (omega arith)
 
 -- a refused record leaves state and image, and where the state is lawful and open the closing is still taken
-pub refused_closable : (s : WriterState) (key image : List ℕ) (i : Item) (n : ℕ) → Ready s key image → reply_number (write s key image i).reply ≡ suc n
-    → (close (write s key image i).state key (write s key image i).image).reply ≡ Plain
+pub refused_closable : (s : WriterState) (key image : List ℕ) (i : Item) (n : ℕ) → Ready s key image → number_of (write s key image i).reply ≡ suc n
+    → (close (write s key image i).state key (write s key image i).image).reply ≡ Ok Plain
 refused_closable s key image i n r e = rw (refused_leaves s key image i n e) (room_for_closing s key image r).0

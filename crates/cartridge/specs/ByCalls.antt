@@ -1,6 +1,7 @@
--- A run as calls of the library: each is given what the last one left. And a walk as calls of `read`, each at the next of the one before and
--- with the buffer that it left, up to End or the end of the image.
-use Rattle.std.specs.Prelude.{◌≡◌, List, [], ◌∷◌, ◌++◌, ℕ, ◌≤◌, ◌<◌}
+-- A run as calls of the library: each is given what the last one left. And a walk as calls of `read`, each at the next
+-- of the one before and with the buffer that it left, up to End or the end of the image.
+use Rattle.std.specs.Prelude.{◌≡◌, List, [], ◌∷◌, ◌++◌, ℕ, ◌≤◌, ◌<◌, Result, Ok, Err}
+use Rattle.numbers.specs.declared.Refusal.{Refusal}
 use Rattle.block.specs.Image.{capacity_of}
 use Rattle.writer.specs.declared.WriterState.{WriterState}
 use Rattle.writer.specs.declared.Wrote.{Wrote}
@@ -36,20 +37,20 @@ step p g b = record { at = p; got = g; left = b }
 
 pub data Reads (key : List ℕ) (id recording : ℕ) (image : List ℕ) : ℕ → List ℕ → List Step → Type 0 where
   over : {p : ℕ} {b : List ℕ} → capacity_of image ≤ p → Reads key id recording image p b []
-  stop : {p : ℕ} {b b' : List ℕ} {g : Got} → p < capacity_of image → Read key id recording image p b g b' → g.outcome ≡ o.End
+  stop : {p : ℕ} {b b' : List ℕ} {g : Got} → p < capacity_of image → Read key id recording image p b g b' → g.outcome ≡ Ok o.End
       → Reads key id recording image p b (step p g b' ∷ [])
   goes : {p : ℕ} {b b' : List ℕ} {g : Got} {xs : List Step} → p < capacity_of image → Read key id recording image p b g b'
-      → (g.outcome ≡ o.End → ⊥) → Reads key id recording image g.next b' xs → Reads key id recording image p b (step p g b' ∷ xs)
+      → (g.outcome ≡ Ok o.End → ⊥) → Reads key id recording image g.next b' xs → Reads key id recording image p b (step p g b' ∷ xs)
 
 -- what the caller has in hand: a mark, or the record's part of the buffer
-abbrev pub in_hand : ℕ → Outcome → List ℕ → List Handed
-in_hand p (o.Record n) b = hand p (rec (part_of b n)) ∷ []
-in_hand p o.Mark b = hand p fmark ∷ []
-in_hand p o.End b = []
-in_hand p o.Bad b = []
-in_hand p o.Stray b = []
-in_hand p (o.Cut q) b = []
-in_hand p (o.Refused n) b = []
+abbrev pub in_hand : ℕ → Result Outcome Refusal → List ℕ → List Handed
+in_hand p (Ok (o.Record n)) b = hand p (rec (part_of b n)) ∷ []
+in_hand p (Ok o.Mark) b = hand p fmark ∷ []
+in_hand p (Ok o.End) b = []
+in_hand p (Ok o.Bad) b = []
+in_hand p (Ok o.Stray) b = []
+in_hand p (Ok (o.Cut q)) b = []
+in_hand p (Err e) b = []
 
 abbrev pub all_in_hand : List Step → List Handed
 all_in_hand [] = []

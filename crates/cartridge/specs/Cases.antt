@@ -1,13 +1,15 @@
 -- Cases at the edges, P1 to P12, in one table: what the definitions give, and what FORMAT and NUMBERS say.
-use Rattle.std.specs.Prelude.{false, List, [], ◌∷◌, ℕ, ◌-◌, get_or, take, replicate}
+use Rattle.std.specs.Prelude.{false, List, [], ◌∷◌, ℕ, ◌-◌, get_or, take, replicate, Result, Ok, Err}
+use Rattle.numbers.specs.declared.Refusal.{Refusal}
+use Rattle.numbers.specs.Refusals.{number_of}
 use Rattle.pi.specs.Table.{S}
 use Rattle.pi.specs.Field.{only, double}
 use Rattle.pi.specs.Permutation.{state_by, shift, mix}
 use Rattle.sponge.specs.Blink.{pad_close}
 use Rattle.writer.specs.declared.Reply.{Reply}
-use Rattle.writer.specs.declared.Reply.TheVariants.{Plain, Warned, Refused}
+use Rattle.writer.specs.declared.Reply.TheVariants.{Plain, Warned}
 use Rattle.writer.specs.Items.{Item, rec, fmark, blocks_for}
-use Rattle.writer.specs.Writing.{reply_number, Done, write}
+use Rattle.writer.specs.Writing.{Done, write}
 
 pub record Case : Type 0 where
   pub found : List ℕ
@@ -34,10 +36,10 @@ item_at p i =
     write (record { id = 0; recording = 0; capacity = 16; zone = 4; position = p; closed = false; marks = 0 }) (replicate 24 0) (replicate 8192 0) i
 
 -- 1 where the answer warns
-abbrev pub warning : Reply → ℕ
-warning Plain = 0
-warning Warned = 1
-warning (Refused n) = 0
+abbrev pub warning : Result Reply Refusal → ℕ
+warning (Ok Plain) = 0
+warning (Ok Warned) = 1
+warning (Err e) = 0
 
 -- where an item at p ends, and whether it is warned
 unfoldable pub ends_at : ℕ → Item → List ℕ
@@ -74,5 +76,5 @@ cases =
     -- one that ends at 13 is
     record { found = ends_at 12 fmark; said = 13 ∷ 1 ∷ [] } ∷
     -- P12 two blocks at 13 are taken, at 14 refused 5
-    record { found = reply_number (item_at 13 (zeros 489)).reply ∷ reply_number (item_at 14 (zeros 489)).reply ∷ []; said = 0 ∷ 5 ∷ [] } ∷
+    record { found = number_of (item_at 13 (zeros 489)).reply ∷ number_of (item_at 14 (zeros 489)).reply ∷ []; said = 0 ∷ 5 ∷ [] } ∷
     []

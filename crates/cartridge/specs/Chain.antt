@@ -1,11 +1,12 @@
--- A chain: any list of calls, each given the state and image that the last one left; what was accepted is read off the replies. A run is
--- a start and a chain behind it.
-use Rattle.std.specs.Prelude.{◌≡◌, List, [], ◌∷◌, ◌++◌, ℕ}
+-- A chain: any list of calls, each given the state and image that the last one left; what was accepted is read off the
+-- replies. A run is a start and a chain behind it.
+use Rattle.std.specs.Prelude.{◌≡◌, List, [], ◌∷◌, ◌++◌, ℕ, Result, Ok, Err}
+use Rattle.numbers.specs.declared.Refusal.{Refusal}
 use Rattle.laws.specs.Lists.{AllBytes}
 use Rattle.block.specs.Image.{View, view}
 use Rattle.writer.specs.declared.WriterState.{WriterState}
 use Rattle.writer.specs.declared.Reply.{Reply}
-use Rattle.writer.specs.declared.Reply.TheVariants.{Plain, Warned, Refused}
+use Rattle.writer.specs.declared.Reply.TheVariants.{Plain}
 use Rattle.writer.specs.Items.{Item, rec, fmark}
 use Rattle.writer.specs.Writing.{Done, start, write, close}
 
@@ -19,17 +20,14 @@ call key s image (item i) = write s key image i
 call key s image closing = close s key image
 
 -- the items that a reply says were taken
-abbrev pub took : Reply → Call → List Item
-took Plain (item i) = i ∷ []
-took Plain closing = []
-took Warned (item i) = i ∷ []
-took Warned closing = []
-took (Refused n) (item i) = []
-took (Refused n) closing = []
+abbrev pub took : Result Reply Refusal → Call → List Item
+took (Ok r) (item i) = i ∷ []
+took (Ok r) closing = []
+took (Err e) x = []
 
 -- the state and the image at the end of a chain
 abbrev pub chain : List ℕ → WriterState → List ℕ → List Call → Done
-chain key s image [] = record { state = s; reply = Plain; number = 0; image = image }
+chain key s image [] = record { state = s; reply = Ok Plain; number = 0; image = image }
 chain key s image (x ∷ xs) = chain key (call key s image x).state (call key s image x).image xs
 
 -- and the items that were accepted on the way
@@ -79,5 +77,5 @@ shown a image = view a.key a.id a.recording image
 
 -- the start was accepted, and records are of bytes
 pub record Proper (r : Run) : Type 0 where
-  pub starts : (begun r.setup).reply ≡ Plain
+  pub starts : (begun r.setup).reply ≡ Ok Plain
   pub bytes : AllCallBytes r.calls

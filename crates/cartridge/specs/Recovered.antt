@@ -28,8 +28,8 @@ pub record Damaged (r : Run) (now : List ℕ) : Type 0 where
   pub long : length now ≡ length (left r).image
   pub shuts : (p : ℕ) → p < capacity_of now → block_at now p ≢ block_at (left r).image p → Shut (shown r.setup now p)
 
--- the walk hands out exactly the run's items whose blocks are unspoiled, and takes no more reads than there are blocks, however many are
--- allowed
+-- the walk hands out exactly the run's items whose blocks are unspoiled, and takes no more reads than there are blocks,
+-- however many are allowed
 pub record Recovered (r : Run) (now : List ℕ) : Type 0 where
   pub gives : handed (walk (shown r.setup now) (capacity_of now)) ≡ intact (spoiled (left r).image now) 0 (items r)
   pub short : (n : ℕ) → length (walk_from n (shown r.setup now) (capacity_of now) 0) ≤ capacity_of now

@@ -40,9 +40,9 @@ laid_four a b c d =
     (all4 (bit 0 a) (bit 0 b) (bit 0 c) (bit 0 d) (bit_low 0 a) (bit_low 0 b) (bit_low 0 c) (bit_low 0 d) laid four tt)
 
 -- x plus a, its low half h through m between sums with a and c, and c once more: m of x
-pub alone : (m : List ℕ) (a c x h y r : ℕ) → a < 16 → h ≡ xor x a % 16 → y ≡ xor (get_or m (xor h a) 0) c → r ≡ y → xor r c ≡ get_or m (x % 16) 0
+pub alone : (m : List ℕ) (a c x h y r : ℕ) → a < 16 → h ≡ xor x a % 16 → y ≡ xor (get_or m (xor h a) 0) c → r ≡ xor y c → r ≡ get_or m (x % 16) 0
 unfolding xor
 alone m a c x h y r l eh ey er =
     let e : h ≡ xor (x % 16) a = eh ∙ xor_mod x a 4 ∙ ap (xor (x % 16)) (mod-eq_of_lt l) in
-    ap (λ (z : ℕ). xor z c) (er ∙ ey) ∙ xor_undone (get_or m (xor h a) 0) c
+    er ∙ ap (λ (z : ℕ). xor z c) ey ∙ xor_undone (get_or m (xor h a) 0) c
     ∙ ap (λ (z : ℕ). get_or m z 0) (ap (λ (z : ℕ). xor z a) e ∙ xor_undone (x % 16) a)

@@ -6,8 +6,8 @@ use contract.Lifetimes.{Lfts}
 use borrow.Fn.Kinds.{Dens, res_t, ended_of}
 use denote.Triple.Clauses.{AtExit}
 use Rattle.gates.proofs.Words.{fit, same_halves}
-use Rattle.gates.proofs.sum.Reads as sum
-use Rattle.gates.proofs.sum.Kinds as sum-kinds
+use Rattle.gates.proofs.FourBitXor.bitxor.Reads as sum
+use Rattle.gates.proofs.FourBitXor.bitxor.Kinds as sum-kinds
 use Rattle.gates.proofs.high_in.Reads as high-in
 use Rattle.gates.proofs.high_in.Kinds as high-in-kinds
 use Rattle.gates.proofs.low_in.Reads as low-in

@@ -7,6 +7,9 @@ ghost use Rattle.std.specs.Prelude.{◌≡◌, ◌%◌, get_or};
 ghost use Rattle.laws.specs.Xor.{xor};
 ghost use Rattle.pi.specs.Table.{E, E⁻, R};
 ghost use Rattle.gates.specs.Gates.{Same16, half, Minibox};
+ghost use Rattle.gates.specs.declared.Four.{Four};
+
+use std::ops::BitXor;
 
 #[derive(Clone, Copy)]
 pub struct Four {
@@ -16,14 +19,19 @@ pub struct Four {
     pub p3: u16,
 }
 
-pub fn sum(x: Four, y: Four) -> Four
-    ensures { Same16 (half result) (λ n. xor (half x n) (half y n)) }
-{
-    Four {
-        p0: x.p0 ^ y.p0,
-        p1: x.p1 ^ y.p1,
-        p2: x.p2 ^ y.p2,
-        p3: x.p3 ^ y.p3,
+// The sum of half bytes, at every place.
+impl BitXor for Four {
+    type Output = Four;
+
+    ghost bitxor_gives = { λ x y r. Same16 (half r) (λ n. xor (half x n) (half y n)) };
+
+    fn bitxor(self, y: Four) -> Four {
+        Four {
+            p0: self.p0 ^ y.p0,
+            p1: self.p1 ^ y.p1,
+            p2: self.p2 ^ y.p2,
+            p3: self.p3 ^ y.p3,
+        }
     }
 }
 
@@ -187,7 +195,7 @@ pub fn low_out(x: Four) -> Four
 fn spread(x: u8) -> Four
     ensures { half result 0 ≡ x % 16 }
 {
-    let w = x as u16;
+    let w = u16::from(x);
     Four {
         p0: w,
         p1: w >> 1,
@@ -204,23 +212,35 @@ fn gathered(x: Four) -> u8
     (w % 256) as u8
 }
 
+// The low half of x, plus a, through a circuit, plus c: the sums that stand around a minibox undone.
+#[inline(always)]
+fn alone<F: Fn(Four) -> Four>(circuit: F, a: u8, c: u8, x: u8) -> u8
+    requires { F.IsAlwaysCallable circuit }
+    ensures { (h : Four) × (y : Four) × (half h 0 ≡ xor x a % 16) × F.post circuit h y × (result ≡ xor (half y 0) c) }
+{
+    gathered(circuit(spread(x ^ a))) ^ c
+}
+
 // E of the low half of x.
+#[inline(always)]
 pub fn box_e(x: u8) -> u8
     ensures { result ≡ get_or E (x % 16) 0 }
 {
-    gathered(high_in(spread(x ^ 6))) ^ 0xF
+    alone(high_in, 6, 0xF, x)
 }
 
 // E' of the low half of x.
+#[inline(always)]
 pub fn box_e_back(x: u8) -> u8
     ensures { result ≡ get_or E⁻ (x % 16) 0 }
 {
-    gathered(low_in(spread(x ^ 2))) ^ 0xD
+    alone(low_in, 2, 0xD, x)
 }
 
 // R of the low half of x.
+#[inline(always)]
 pub fn box_r(x: u8) -> u8
     ensures { result ≡ get_or R (x % 16) 0 }
 {
-    gathered(between(spread(x ^ 2))) ^ 0xB
+    alone(between, 2, 0xB, x)
 }

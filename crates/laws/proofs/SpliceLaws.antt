@@ -1,8 +1,9 @@
 -- A list laid over another from an index on: lists laid behind one another, parts that come back, one turn of a loop that fills.
 -- Assumes nothing.
-use mathlib.Core.Path.{◌≡◌, sym, ap, ap₂, ◌∙◌}
+use mathlib.Core.Path.{◌≡◌, sym, ap, ◌∙◌}
 use mathlib.Core.List.{List, [], ◌∷◌, ◌++◌, append_assoc, append-nil}
-use Prim.Native.Nat.{ℕ, suc, ◌+◌, ◌-◌, ◌≤◌, ◌<◌}
+use mathlib.Core.Logic.{⊎_elim}
+use Prim.Native.Nat.{ℕ, suc, ◌+◌, ◌-◌, ◌≤◌, ◌<◌, min}
 use native.Mathlib.Nat.{add-zero, zero-add, add_assoc}
 use native.Mathlib.Omega.{arith}
 use lib.ListN.{length, take, drop, length-append, length-take, length-drop, take-append-drop, drop_of_length-le}
@@ -12,6 +13,7 @@ use lib.Seq.{get_or-append-add, get_or-drop, set_at, drop-cons, take_at, drop_at
 use Rattle.laws.specs.Lists.{listed, splice}
 use Rattle.laws.specs.Loops.{front}
 use Rattle.laws.proofs.ListLaws.{length_listed, listed_join}
+use Rattle.laws.proofs.OrderLaws.{lt_or_ge}
 
 pub splice_nil : (l : List ℕ) (at : ℕ) → splice l at [] ≡ l
 unfolding splice
@@ -37,14 +39,6 @@ module _ (l : List ℕ) (at : ℕ) (b c : List ℕ) (h : at + length b + length 
   splice_behind =
       rw (← append_assoc (take at l) b (drop (at + length b) l), take_at (take at l ++ b) (drop (at + length b) l) (at + length b) head_length, tail_drop)
       (simp (length-append, append_assoc, add_assoc))
-
--- what a callee lays at the front of the part from at on, seen in the whole
-pub splice_part : (l : List ℕ) (at : ℕ) (b : List ℕ) → at + length b ≤ length l
-    → take at l ++ (splice (take (length l - at) (drop at l)) 0 b ++ drop (length l - at) (drop at l)) ≡ splice l at b
-unfolding splice
-splice_part l at b h =
-    let n : length (drop at l) ≤ length l - at = simp length-drop (omega arith) in
-    rw (take_all (length l - at) (drop at l) n, drop_of_length-le (drop at l) n, append-nil, zero-add, drop-drop)
 
 -- a store behind what is laid
 module _ (l : List ℕ) (at : ℕ) (b : List ℕ) (x : ℕ) (h : at + length b < length l) where
@@ -121,21 +115,14 @@ splice_after l b k h =
     ∙ get_or-drop (0 + length b) l (k - length b) 0
     ∙ ap (λ (m : ℕ). get_or l m 0) e₂
 
--- a list laid over all that stands behind another
-pub splice_tail : (e d w : List ℕ) (n : ℕ) → length e ≡ n → length d ≡ length w → splice (e ++ d) n w ≡ e ++ w
+-- as much of b as there is room for, laid over the front
+pub splice_front : (l b x : List ℕ) (n : ℕ) → x ≡ take n b → n ≡ min (length l) (length b) → x ++ drop n l ≡ splice l 0 (take (length l) b)
 unfolding splice
-splice_tail e d w n h k =
-    let l : length (e ++ d) ≤ n + length w = omega (arith, length-append e d) in
-    rw (take_at e d n h, drop_of_length-le (e ++ d) l, append-nil)
-
--- a list o whose front, n elements, came back as e, and whose rest, the part, came back as b with w laid over it
-pub splice_two : (o e w : List ℕ) (n : ℕ) {l part b : List ℕ} → length e ≡ n → length o ≡ n + length w → l ≡ e ++ drop n o → part ≡ take (length l - n) (drop n l)
-    → b ≡ splice part 0 (take (length part) w) → take n l ++ (b ++ drop (length l - n) (drop n l)) ≡ e ++ w
-splice_two o e w n {l = l} {part = part} h k f g q =
-    let d : length (drop n o) ≡ length w = simp length-drop (omega arith) in
-    let m : length l ≡ n + length w = ap length f ∙ length-append e (drop n o) ∙ omega arith in
-    let r : length w ≤ length part = rw g (simp (length-take, length-drop) (omega arith)) in
-    ap (λ (x : List ℕ). take n l ++ (x ++ drop (length l - n) (drop n l))) (q ∙ ap₂ (λ (x y : List ℕ). splice x 0 y) g (take_all (length part) w r))
-    ∙ splice_part l n w (omega arith)
-    ∙ ap (λ (x : List ℕ). splice x n w) f
-    ∙ splice_tail e (drop n o) w n h d
+splice_front l b x n e h =
+    let t : take n b ≡ take (length l) b =
+    ⊎_elim
+    (λ p. let g : length b ≤ length l = omega arith in
+    take_all n b (omega arith) ∙ sym (take_all (length l) b g))
+    (λ p. let g : n ≡ length l = omega arith in ap (λ (m : ℕ). take m b) g)
+    (lt_or_ge (length b) (length l)) in
+    rw (e, zero-add, length-take (length l) b, t, h)

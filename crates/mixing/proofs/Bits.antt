@@ -5,6 +5,7 @@ use mathlib.Core.Logic.{⊎_elim}
 use Prim.Native.Nat.{ℕ, ◌+◌, ◌-◌, ◌*◌, ◌/◌, ◌%◌, ◌^◌, ◌<◌}
 use native.Mathlib.Omega.{arith}
 use lib.Bits.{bit_or, bit_xor, or_zero_r}
+use Rattle.std.specs.Int.{w64, rotate_left}
 use Rattle.laws.specs.Xor.{xor}
 use Rattle.laws.proofs.OrderLaws.{lt_or_ge}
 use Rattle.planes.specs.Planes.{bit}
@@ -31,5 +32,9 @@ turn_bit k x n hx h0 hk hn =
     ap₂ bit_or (bit_up n k x g) (bit_past (n + (64 - k)) 64 x hx (omega arith)) ∙ or_zero_r (bit (n - k) x) ∙ ap (λ (m : ℕ). bit m x) (sym e))
     (lt_or_ge n k)
 
-pub turn_is : (k x : ℕ) → x < 2 ^ 64 → 0 < k → k < 64 → Turned k x (bit_or (x * 2 ^ k % 2 ^ 64) (x / 2 ^ (64 - k)))
-turn_is k x hx h0 hk = record { bits = λ n h. turn_bit k x n hx h0 hk h }
+pub turn_is : (k x r : ℕ) → x < 2 ^ 64 → 0 < k → k < 64 → r ≡ rotate_left w64 x k → Turned k x r
+turn_is k x r hx h0 hk e =
+    let f : k % 64 ≡ k = omega arith in
+    let g : (64 - k % 64) % 64 ≡ 64 - k = omega arith in
+    let s : r ≡ bit_or (x * 2 ^ k % 2 ^ 64) (x / 2 ^ (64 - k)) = e ∙ ap₂ (λ (l m : ℕ). bit_or (x * 2 ^ l % 2 ^ 64) (x / 2 ^ m)) f g in
+    record { bits = λ n h. ap (bit n) s ∙ turn_bit k x n hx h0 hk h }

@@ -3,4 +3,5 @@ pub mod Bits
 pub mod Bytes
 pub mod Sums
 pub mod States
+pub mod Rows
 pub mod Unique

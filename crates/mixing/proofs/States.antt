@@ -18,7 +18,7 @@ use Rattle.pi.proofs.Build.{state_at, state_same}
 use Rattle.pi.proofs.StateLaws.{places}
 use Rattle.planes.specs.Planes.{bit, byte_by, word, flipped, bytes_of}
 use Rattle.planes.specs.declared.Planes.{Planes}
-use Rattle.mixing.specs.Turns.{before}
+use Rattle.mixing.specs.Turns.{before, Rows_turned}
 use Rattle.planes.proofs.BitLaws.{bit_low, bit_byte, byte_by_same, byte_by_low, byte_by_bit}
 use Rattle.mixing.proofs.Bytes.{by_all, only_low, all_low, times_by}
 use Rattle.mixing.proofs.Sums.{all_eights, turned_bit, sum_at, Summed, agree, masked}
@@ -66,6 +66,15 @@ from p d i j hd hi hj =
     ap (byte_at p) (column d i j hd hi hj ∙ ap₂ (λ (c r : ℕ). 8 * c + r) e g)
     ∙ sym (byte_of p (i * 8 + (j + (8 - d)) % 8) (omega arith))
 
+-- where each plane is turned by d columns, each row is
+pub row_turned : (p r : Planes) (d k : ℕ) → d < 8 → k < 64 → Rows_turned d p r
+    → get_or (flipped (bytes_of r)) k 0 ≡ get_or (flipped (bytes_of p)) (k / 8 * 8 + (k % 8 + (8 - d)) % 8) 0
+unfolding byte_at
+row_turned p r d k hd h e =
+    byte_of r k h
+    ∙ byte_by_same _ _ (λ b l. (e.words b l).bits (8 * (k % 8) + k / 8) (omega arith))
+    ∙ from p d (k / 8) (k % 8) hd (omega arith) (mod-lt k (lit< tt))
+
 -- ---- a sum of eight, back to front and turned by one
 eight : ℕ → ℕ → ℕ → ℕ → ℕ → ℕ → ℕ → ℕ → ℕ
 eight a b c d e f g h = xor a (xor b (xor c (xor d (xor e (xor f (xor g (xor h 0)))))))
@@ -92,8 +101,8 @@ by_columns f =
     (back _ _ _ _ _ _ _ _ ∙ turn _ _ _ _ _ _ _ _)
     (back _ _ _ _ _ _ _ _)
 
--- ---- what bit b of a mixed byte is the sum of: of the byte that comes from d columns back, the bits i where 2^i times the circulant's entry
--- has the bit b; the mask has them at 8d + i
+-- ---- what bit b of a mixed byte is the sum of: of the byte that comes from d columns back, the bits i where 2^i
+-- times the circulant's entry has the bit b; the mask has them at 8d + i
 unfoldable pub wanted : List ℕ → ℕ → ℕ → ℕ
 wanted m b i = bit b (times (get_or m (i / 8) 0) (2 ^ (i % 8)))
 
@@ -140,11 +149,10 @@ abbrev pub Wanted : List ℕ → {p : Planes} {x : ℕ} → ℕ → Summed p x �
 Wanted m b s = T (every (agree s.mask (wanted m b)) 0 places)
 
 module _ (m : List ℕ) (p r : Planes)
-    (s₀ : Summed p r.p0) (s₁ : Summed p r.p1) (s₂ : Summed p r.p2) (s₃ : Summed p r.p3)
-    (s₄ : Summed p r.p4) (s₅ : Summed p r.p5) (s₆ : Summed p r.p6) (s₇ : Summed p r.p7) where
+    (s₀ : Summed p (word r 0)) (s₁ : Summed p (word r 1)) (s₂ : Summed p (word r 2)) (s₃ : Summed p (word r 3))
+    (s₄ : Summed p (word r 4)) (s₅ : Summed p (word r 5)) (s₆ : Summed p (word r 6)) (s₇ : Summed p (word r 7)) where
   pub mixes_by : Wanted m 0 s₀ → Wanted m 1 s₁ → Wanted m 2 s₂ → Wanted m 3 s₃ → Wanted m 4 s₄ → Wanted m 5 s₅ → Wanted m 6 s₆ → Wanted m 7 s₇
       → flipped (bytes_of r) ≡ mix_with m (flipped (bytes_of p))
-  unfolding word
   mixes_by t₀ t₁ t₂ t₃ t₄ t₅ t₆ t₇ =
       mixes m p r
       (below8 (λ (b : ℕ). (n : ℕ) → n < 64 → bit n (word r b) ≡ sum_at p (wanted m b) n)

@@ -1,5 +1,5 @@
--- Words that are sums of planes and of their turns by whole columns: each bit of such a word is the sum, over the 64 pairs of a plane b and a
--- turn by d columns, numbered 8d + b, of those that a mask has.
+-- Words that are sums of planes and of their turns by whole columns: each bit of such a word is the sum, over the 64
+-- pairs of a plane b and a turn by d columns, numbered 8d + b, of those that a mask has.
 -- Assumes nothing.
 use mathlib.Core.Path.{◌≡◌, sym, ap, ap₂, ◌∙◌}
 use mathlib.Core.Bool.{Bool}

@@ -1,5 +1,5 @@
--- `mixing::mixed` and `mixed_back` promise one result: two that meet the promise at the same planes are equal. As in `planes`, that each of a result's
--- words is below 2^64 is what its type says (`Ok`).
+-- `mixing::mixed` and `mixed_back` promise one result: two that meet the promise at the same planes are equal. As in
+-- `planes`, that each of a result's words is below 2^64 is what its type says (`Ok`).
 -- Assumes nothing.
 use mathlib.Core.Path.{◌≡◌, sym, ◌∙◌}
 use contract.Lifetimes.{Lfts}

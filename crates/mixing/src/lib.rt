@@ -1,178 +1,65 @@
 // The mix and its inverse on planes, by turns of words.
 #![tactic(auto)]
 
-ghost use Rattle.std.specs.Prelude.{◌≡◌, ◌<◌};
+ghost use Rattle.std.specs.Prelude.{◌≡◌, ◌*◌, ◌<◌};
 ghost use Rattle.pi.specs.Permutation.{mix, mix⁻};
 ghost use Rattle.planes.specs.Planes.{flipped, bytes_of};
-ghost use Rattle.mixing.specs.Turns.{Turned};
+ghost use Rattle.mixing.specs.Turns.{Turned, Rows_turned, bytes_doubled};
 
 use planes::Planes;
 
-// Turned left by k bits.
-fn turn(x: u64, k: u64) -> u64
-    requires { (0 < k) × (k < 64) }
-    ensures { Turned k x result }
+// Turned left by so many columns of eight bits.
+fn turn<const COLUMNS: u32>(x: u64) -> u64
+    requires { (0 < COLUMNS) × (COLUMNS < 8) }
+    ensures { Turned (8 * COLUMNS) x result }
 {
-    (x << k) | (x >> (64 - k))
+    x.rotate_left(8 * COLUMNS)
 }
 
-// The mix of the state that the planes hold. With T for the turn by one column it is
-// 1 + T((1 + T²)(1 + T⁴) + 2T(T⁴ + 2(1 + T³)(1 + 2T²))), plane by plane.
-pub fn mixed(p: Planes) -> Planes
-    ensures { flipped (bytes_of result) ≡ mix (flipped (bytes_of p)) }
+// Each row of the state turned by so many columns.
+fn turned<const COLUMNS: u32>(p: Planes) -> Planes
+    requires { (0 < COLUMNS) × (COLUMNS < 8) }
+    ensures { Rows_turned COLUMNS p result }
 {
-    let p0 = p.p0;
-    let p1 = p.p1;
-    let p2 = p.p2;
-    let p3 = p.p3;
-    let p4 = p.p4;
-    let p5 = p.p5;
-    let p6 = p.p6;
-    let p7 = p.p7;
-    let a7 = turn(p7, 32);
-    let k7 = turn(p7, 24);
-    let d7 = p7 ^ k7;
-    let w7 = turn(d7, 16);
-    let k6 = turn(p6, 24);
-    let d6 = p6 ^ k6;
-    let w6 = turn(d6, 16);
-    let k5 = turn(p5, 24);
-    let d5 = p5 ^ k5;
-    let w5 = turn(d5, 16);
-    let e7 = d7 ^ w6;
-    let e6 = d6 ^ w5;
-    let f7 = a7 ^ e6;
-    let z7 = turn(f7, 8);
-    let b7 = p7 ^ a7;
-    let u7 = turn(b7, 16);
-    let c7 = b7 ^ u7;
-    let k0 = turn(p0, 24);
-    let d0 = p0 ^ k0;
-    let w0 = turn(d0, 16);
-    let e0 = d0 ^ w7;
-    let a0 = turn(p0, 32);
-    let b0 = p0 ^ a0;
-    let u0 = turn(b0, 16);
-    let c0 = b0 ^ u0;
-    let f0 = a0 ^ e7;
-    let z0 = turn(f0, 8);
-    let g0 = c0 ^ z7;
-    let h0 = turn(g0, 8);
-    let k1 = turn(p1, 24);
-    let d1 = p1 ^ k1;
-    let w1 = turn(d1, 16);
-    let e1 = d1 ^ w0;
-    let a1 = turn(p1, 32);
-    let b1 = p1 ^ a1;
-    let u1 = turn(b1, 16);
-    let c1 = b1 ^ u1;
-    let f1 = a1 ^ e0;
-    let z1 = turn(f1, 8);
-    let g1 = c1 ^ z0;
-    let h1 = turn(g1, 8);
-    let k2 = turn(p2, 24);
-    let d2 = p2 ^ k2;
-    let w2 = turn(d2, 16);
-    let e2 = d2 ^ (w1 ^ w7);
-    let a2 = turn(p2, 32);
-    let b2 = p2 ^ a2;
-    let u2 = turn(b2, 16);
-    let c2 = b2 ^ u2;
-    let f2 = a2 ^ (e1 ^ e7);
-    let z2 = turn(f2, 8);
-    let g2 = c2 ^ (z1 ^ z7);
-    let h2 = turn(g2, 8);
-    let k3 = turn(p3, 24);
-    let d3 = p3 ^ k3;
-    let w3 = turn(d3, 16);
-    let e3 = d3 ^ (w2 ^ w7);
-    let a3 = turn(p3, 32);
-    let b3 = p3 ^ a3;
-    let u3 = turn(b3, 16);
-    let c3 = b3 ^ u3;
-    let f3 = a3 ^ (e2 ^ e7);
-    let z3 = turn(f3, 8);
-    let g3 = c3 ^ (z2 ^ z7);
-    let h3 = turn(g3, 8);
-    let k4 = turn(p4, 24);
-    let d4 = p4 ^ k4;
-    let w4 = turn(d4, 16);
-    let e4 = d4 ^ (w3 ^ w7);
-    let a4 = turn(p4, 32);
-    let b4 = p4 ^ a4;
-    let u4 = turn(b4, 16);
-    let c4 = b4 ^ u4;
-    let f4 = a4 ^ (e3 ^ e7);
-    let z4 = turn(f4, 8);
-    let g4 = c4 ^ (z3 ^ z7);
-    let h4 = turn(g4, 8);
-    let e5 = d5 ^ w4;
-    let a5 = turn(p5, 32);
-    let b5 = p5 ^ a5;
-    let u5 = turn(b5, 16);
-    let c5 = b5 ^ u5;
-    let f5 = a5 ^ e4;
-    let z5 = turn(f5, 8);
-    let g5 = c5 ^ z4;
-    let h5 = turn(g5, 8);
-    let a6 = turn(p6, 32);
-    let b6 = p6 ^ a6;
-    let u6 = turn(b6, 16);
-    let c6 = b6 ^ u6;
-    let f6 = a6 ^ e5;
-    let z6 = turn(f6, 8);
-    let g6 = c6 ^ z5;
-    let h6 = turn(g6, 8);
-    let g7 = c7 ^ z6;
-    let h7 = turn(g7, 8);
     Planes {
-        p0: p0 ^ h0,
-        p1: p1 ^ h1,
-        p2: p2 ^ h2,
-        p3: p3 ^ h3,
-        p4: p4 ^ h4,
-        p5: p5 ^ h5,
-        p6: p6 ^ h6,
-        p7: p7 ^ h7,
+        words: p.words.map(turn::<COLUMNS>),
     }
 }
 
-// The mix undone: the inverse row's even places and its odd ones, each by turns of two columns; the odd ones are turned by one more.
+// Each byte of the state doubled in the field: bit 7 goes to the bits of 1D.
+fn doubled(p: Planes) -> Planes
+    ensures { flipped (bytes_of result) ≡ bytes_doubled (flipped (bytes_of p)) }
+{
+    let [p0, p1, p2, p3, p4, p5, p6, p7] = p.words;
+    Planes {
+        words: [p7, p0, p1 ^ p7, p2 ^ p7, p3 ^ p7, p4, p5, p6],
+    }
+}
+
+// The mix of the state that the planes hold. With T for the turn by one column it is
+// 1 + T((1 + T²)(1 + T⁴) + 2T(T⁴ + 2(1 + T³)(1 + 2T²))).
+pub fn mixed(p: Planes) -> Planes
+    ensures { flipped (bytes_of result) ≡ mix (flipped (bytes_of p)) }
+{
+    let d = planes::sum(p, turned::<3>(p)); // 1 + T³
+    let e = planes::sum(d, doubled(turned::<2>(d))); // (1 + T³)(1 + 2T²)
+    let a = turned::<4>(p); // T⁴
+    let f = planes::sum(a, doubled(e));
+    let b = planes::sum(p, a); // 1 + T⁴
+    let c = planes::sum(b, turned::<2>(b)); // (1 + T²)(1 + T⁴)
+    let g = planes::sum(c, doubled(turned::<1>(f)));
+    planes::sum(p, turned::<1>(g))
+}
+
+// The mix undone: the inverse row's even places and its odd ones, each by turns of two columns; the odd ones are
+// turned by one more. A circuit of words: by operations on whole planes π back took 7,289 instructions (bar: 6,500).
 pub fn mixed_back(p: Planes) -> Planes
     ensures { flipped (bytes_of result) ≡ mix⁻ (flipped (bytes_of p)) }
 {
-    let p0 = p.p0;
-    let p1 = p.p1;
-    let p2 = p.p2;
-    let p3 = p.p3;
-    let p4 = p.p4;
-    let p5 = p.p5;
-    let p6 = p.p6;
-    let p7 = p.p7;
-    let a0_2 = turn(p0, 16);
-    let a0_4 = turn(p0, 32);
-    let a0_6 = turn(p0, 48);
-    let a1_2 = turn(p1, 16);
-    let a1_4 = turn(p1, 32);
-    let a1_6 = turn(p1, 48);
-    let a2_2 = turn(p2, 16);
-    let a2_4 = turn(p2, 32);
-    let a2_6 = turn(p2, 48);
-    let a3_2 = turn(p3, 16);
-    let a3_4 = turn(p3, 32);
-    let a3_6 = turn(p3, 48);
-    let a4_2 = turn(p4, 16);
-    let a4_4 = turn(p4, 32);
-    let a4_6 = turn(p4, 48);
-    let a5_2 = turn(p5, 16);
-    let a5_4 = turn(p5, 32);
-    let a5_6 = turn(p5, 48);
-    let a6_2 = turn(p6, 16);
-    let a6_4 = turn(p6, 32);
-    let a6_6 = turn(p6, 48);
-    let a7_2 = turn(p7, 16);
-    let a7_4 = turn(p7, 32);
-    let a7_6 = turn(p7, 48);
+    let [p0, p1, p2, p3, p4, p5, p6, p7] = p.words;
+    let [a0_2, a1_2, a2_2, a3_2, a4_2, a5_2, a6_2, a7_2] = turned::<2>(p).words;
+    let [a0_4, a1_4, a2_4, a3_4, a4_4, a5_4, a6_4, a7_4] = turned::<4>(p).words;
+    let [a0_6, a1_6, a2_6, a3_6, a4_6, a5_6, a6_6, a7_6] = turned::<6>(p).words;
     let t0 = a3_4 ^ a7_6;
     let t1 = a0_6 ^ a1_6;
     let t2 = a5_2 ^ a1_4;
@@ -216,22 +103,29 @@ pub fn mixed_back(p: Planes) -> Planes
     let t40 = t11 ^ t29;
     let t41 = t7 ^ t21;
     let t42 = a5_2 ^ t9;
-    let o0 = turn(t10 ^ t17 ^ t34 ^ t41 ^ a1_2, 8);
-    let o1 = turn(t11 ^ t12 ^ t17 ^ t27 ^ p0 ^ p2 ^ a2_2, 8);
-    let o2 = turn(t5 ^ t26 ^ t30 ^ t33 ^ p2, 8);
-    let o3 = turn(t39 ^ t41 ^ a3_4, 8);
-    let o4 = turn(t2 ^ t20 ^ t28 ^ p3 ^ a4_2 ^ a2_6 ^ a5_6, 8);
-    let o5 = turn(t8 ^ t15 ^ t40 ^ t42 ^ p4, 8);
-    let o6 = turn(t22 ^ t32 ^ t33 ^ t37 ^ p1 ^ a3_2 ^ a1_6, 8);
-    let o7 = turn(t13 ^ t15 ^ t32 ^ t38 ^ a1_4 ^ a7_4, 8);
-    Planes {
-        p0: t9 ^ t18 ^ t36 ^ a7_6 ^ o0,
-        p1: t8 ^ t22 ^ p7 ^ a0_2 ^ a7_2 ^ a3_4 ^ a3_6 ^ o1,
-        p2: t19 ^ t30 ^ t36 ^ a5_2 ^ o2,
-        p3: t4 ^ t17 ^ t26 ^ t39 ^ a0_2 ^ o3,
-        p4: t2 ^ t21 ^ t37 ^ t38 ^ o4,
-        p5: t16 ^ t34 ^ t40 ^ a4_2 ^ o5,
-        p6: t27 ^ t42 ^ a3_2 ^ a5_6 ^ o6,
-        p7: t10 ^ t13 ^ t28 ^ p5 ^ a4_4 ^ o7,
-    }
+    let even = Planes {
+        words: [
+            t9 ^ t18 ^ t36 ^ a7_6,
+            t8 ^ t22 ^ p7 ^ a0_2 ^ a7_2 ^ a3_4 ^ a3_6,
+            t19 ^ t30 ^ t36 ^ a5_2,
+            t4 ^ t17 ^ t26 ^ t39 ^ a0_2,
+            t2 ^ t21 ^ t37 ^ t38,
+            t16 ^ t34 ^ t40 ^ a4_2,
+            t27 ^ t42 ^ a3_2 ^ a5_6,
+            t10 ^ t13 ^ t28 ^ p5 ^ a4_4,
+        ],
+    };
+    let odd = Planes {
+        words: [
+            t10 ^ t17 ^ t34 ^ t41 ^ a1_2,
+            t11 ^ t12 ^ t17 ^ t27 ^ p0 ^ p2 ^ a2_2,
+            t5 ^ t26 ^ t30 ^ t33 ^ p2,
+            t39 ^ t41 ^ a3_4,
+            t2 ^ t20 ^ t28 ^ p3 ^ a4_2 ^ a2_6 ^ a5_6,
+            t8 ^ t15 ^ t40 ^ t42 ^ p4,
+            t22 ^ t32 ^ t33 ^ t37 ^ p1 ^ a3_2 ^ a1_6,
+            t13 ^ t15 ^ t32 ^ t38 ^ a1_4 ^ a7_4,
+        ],
+    };
+    planes::sum(even, turned::<1>(odd))
 }

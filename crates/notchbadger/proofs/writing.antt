@@ -1,5 +1,4 @@
 -- How the writer's calls cross.
-pub mod Crossing
 pub mod Chained
 pub mod FileNumber
 pub mod Warned

@@ -1,21 +1,24 @@
 -- The writer's state and answer as numbers.
-use Rattle.std.specs.Prelude.{◌≡◌, List, ℕ, eqb, leb}
+use Rattle.std.specs.Prelude.{◌≡◌, List, ℕ, eqb, leb, Result, Ok, Err}
+use Rattle.numbers.specs.declared.Refusal.{Refusal}
+use Rattle.numbers.specs.declared.Refusal.TheVariants as refusal
+use Rattle.numbers.specs.Refusals.{number_of}
 use Rattle.laws.specs.Choose.{pick}
 use Rattle.block.specs.Content.{flag}
 use Rattle.block.specs.Image.{image_then_key}
 use Rattle.writer.specs.declared.WriterState.{WriterState}
 use Rattle.writer.specs.declared.Reply.{Reply}
-use Rattle.writer.specs.declared.Reply.TheVariants.{Plain, Warned, Refused}
+use Rattle.writer.specs.declared.Reply.TheVariants.{Plain, Warned}
 use Rattle.writer.specs.declared.Wrote.{Wrote}
-use Rattle.writer.specs.Writing.{reply_number, Done, wrote_of}
+use Rattle.writer.specs.Writing.{Done, wrote_of}
 use Rattle.notchbadger.specs.declared.writing.NbState.{NbState}
 use Rattle.notchbadger.specs.declared.writing.NbWrote.{NbWrote}
 
 -- 0 plain, 1 warned, 2 refused
-abbrev pub reply_code : Reply → ℕ
-reply_code Plain = 0
-reply_code Warned = 1
-reply_code (Refused n) = 2
+abbrev pub reply_code : Result Reply Refusal → ℕ
+reply_code (Ok Plain) = 0
+reply_code (Ok Warned) = 1
+reply_code (Err e) = 2
 
 -- the fields of a state, out and in; its closed flag is 0 or 1
 abbrev pub flat_state : WriterState → NbState
@@ -42,8 +45,12 @@ state_of s =
       marks = s.marks;
     }
 
+-- a state as it came in: the writer's where its flag is 0 or 1
+abbrev pub came_in : NbState → Result WriterState Refusal
+came_in s = pick (leb s.closed 1) (Ok (state_of s)) (Err refusal.Unlawful)
+
 abbrev pub flat_wrote : Wrote → NbWrote
-flat_wrote w = record { state = flat_state w.state; reply = reply_code w.reply; number = reply_number w.reply }
+flat_wrote w = record { state = flat_state w.state; reply = reply_code w.reply; number = number_of w.reply }
 
 -- any other flag is an unlawful state: 8, behind 1 and 2, and the state comes back as it was given
 unfoldable pub flag_number : List ℕ → List ℕ → ℕ

@@ -1,37 +1,40 @@
-// The permutation, the block operations and sealing: each call forwards.
+// The permutation, the block operations and sealing: each call forwards, and hands on its answer's number.
+// The two of a pair stay apart: each has its name in C.
 ghost use Rattle.std.specs.Prelude.{◌≡◌};
 ghost use Rattle.pi.specs.Table.{S};
 ghost use Rattle.pi.specs.Permutation.{round, round⁻, π, π⁻, Permuted, Rounded};
 ghost use Rattle.sponge.specs.Blink.{get, enc, dec, Put, Ran};
 ghost use Rattle.aead.specs.Sealing.{Sealed, Opened};
 
+use super::number_of;
+
 // ---- The permutation.
 #[unsafe(no_mangle)]
 pub extern "C" fn nb_permute(state: &mut [u8]) -> u8
     ensures { Permuted π state.old result state.new }
 {
-    permutation::permute(state)
+    number_of(permutation::permute(state))
 }
 
 #[unsafe(no_mangle)]
 pub extern "C" fn nb_permute_back(state: &mut [u8]) -> u8
     ensures { Permuted π⁻ state.old result state.new }
 {
-    permutation::permute_back(state)
+    number_of(permutation::permute_back(state))
 }
 
 #[unsafe(no_mangle)]
 pub extern "C" fn nb_round(state: &mut [u8], key: &[u8]) -> u8
     ensures { Rounded round key.now state.old result state.new }
 {
-    permutation::round(state, key)
+    number_of(permutation::round(state, key))
 }
 
 #[unsafe(no_mangle)]
 pub extern "C" fn nb_round_back(state: &mut [u8], key: &[u8]) -> u8
     ensures { Rounded round⁻ key.now state.old result state.new }
 {
-    permutation::round_back(state, key)
+    number_of(permutation::round_back(state, key))
 }
 
 #[unsafe(no_mangle)]
@@ -46,7 +49,7 @@ pub extern "C" fn nb_minibox(x: u8) -> u8
 pub extern "C" fn nb_put(state: &mut [u8], bytes: &[u8], domain: u8) -> u8
     ensures { Put domain bytes.now state.old result state.new }
 {
-    sponge::put(state, bytes, domain)
+    number_of(sponge::put(state, bytes, domain))
 }
 
 #[unsafe(no_mangle)]
@@ -54,7 +57,7 @@ pub extern "C" fn nb_get(state: &mut [u8], out: &mut [u8], domain: u8) -> u8
     ensures { Ran get domain out.old state.old out.old
         result state.new out.new }
 {
-    sponge::get(state, out, domain)
+    number_of(sponge::get(state, out, domain))
 }
 
 #[unsafe(no_mangle)]
@@ -62,7 +65,7 @@ pub extern "C" fn nb_enc(state: &mut [u8], message: &[u8], out: &mut [u8], domai
     ensures { Ran enc domain message.now state.old out.old
         result state.new out.new }
 {
-    sponge::enc(state, message, out, domain)
+    number_of(sponge::enc(state, message, out, domain))
 }
 
 #[unsafe(no_mangle)]
@@ -70,7 +73,7 @@ pub extern "C" fn nb_dec(state: &mut [u8], cipher: &[u8], out: &mut [u8], domain
     ensures { Ran dec domain cipher.now state.old out.old
         result state.new out.new }
 {
-    sponge::dec(state, cipher, out, domain)
+    number_of(sponge::dec(state, cipher, out, domain))
 }
 
 // ---- Sealing.
@@ -85,7 +88,7 @@ pub extern "C" fn nb_seal(
     ensures { Sealed key.now nonce.now associated.now message.now
         out.old result out.new }
 {
-    aead::seal(key, nonce, associated, message, out)
+    number_of(aead::seal(key, nonce, associated, message, out))
 }
 
 #[unsafe(no_mangle)]
@@ -99,5 +102,5 @@ pub extern "C" fn nb_open(
     ensures { Opened key.now nonce.now associated.now sealed.now
         out.old result out.new }
 {
-    aead::open(key, nonce, associated, sealed, out)
+    number_of(aead::open(key, nonce, associated, sealed, out))
 }

@@ -4,11 +4,14 @@
 #![tactic(auto)]
 
 ghost use Rattle.std.specs.Prelude.{◌≡◌};
+ghost use Rattle.numbers.specs.Refusals.{number_of};
 
 pub mod cipher;
 pub mod reading;
 pub mod surveying;
 pub mod writing;
+
+use numbers::{DONE, Refusal};
 
 // Of the header and what its calls promise: higher where a program written for the last one could go wrong.
 pub const VERSION: u32 = 2;
@@ -18,4 +21,14 @@ pub extern "C" fn nb_version() -> u32
     ensures { result ≡ 2 }
 {
     VERSION
+}
+
+// C has no Result: an answer crosses as its number, 0 where the call was carried out.
+fn number_of<T: Copy>(answer: Result<T, Refusal>) -> u8
+    ensures { result ≡ number_of answer }
+{
+    match answer {
+        Ok(_) => DONE,
+        Err(refusal) => u8::from(refusal),
+    }
 }

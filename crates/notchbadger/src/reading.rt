@@ -1,9 +1,11 @@
 // The reader. A returned part can't cross: its place and length do.
 ghost use Rattle.std.specs.Prelude.{◌≡◌};
-ghost use Rattle.reader.specs.Reading.{outcome_number, outcome_value, look_number};
-ghost use Rattle.notchbadger.specs.FlatReader.{outcome_code, flat_got, FlatRead, record_place, looked_at};
+ghost use Rattle.reader.specs.Reading.{look_number};
+ghost use Rattle.notchbadger.specs.FlatReader.{outcome_code, outcome_data, flat_got, FlatRead, record_place, looked_at};
 
-use numbers::{BLOCK_BYTES, DONE};
+use super::number_of;
+use block::Cartridge;
+use numbers::{BLOCK_BYTES, Refusal};
 use reader::{Got, Outcome};
 
 // ---- What crosses.
@@ -23,7 +25,7 @@ pub struct NbPart {
     pub length: usize,
 }
 
-// An outcome's codes.
+// An outcome's codes: C has no enum whose cases hold a value.
 pub const GOT_RECORD: u8 = 0;
 
 pub const GOT_MARK: u8 = 1;
@@ -38,61 +40,45 @@ pub const GOT_CUT: u8 = 5;
 
 pub const GOT_REFUSED: u8 = 6;
 
-fn outcome_code(outcome: Outcome) -> u8
+fn outcome_code(outcome: Result<Outcome, Refusal>) -> u8
     ensures { result ≡ outcome_code outcome }
 {
     match outcome {
-        Outcome::Record(_) => GOT_RECORD,
-        Outcome::Mark => GOT_MARK,
-        Outcome::End => GOT_END,
-        Outcome::Bad => GOT_BAD,
-        Outcome::Stray => GOT_STRAY,
-        Outcome::Cut(_) => GOT_CUT,
-        Outcome::Refused(_) => GOT_REFUSED,
+        Ok(Outcome::Record(_)) => GOT_RECORD,
+        Ok(Outcome::Mark) => GOT_MARK,
+        Ok(Outcome::End) => GOT_END,
+        Ok(Outcome::Bad) => GOT_BAD,
+        Ok(Outcome::Stray) => GOT_STRAY,
+        Ok(Outcome::Cut(_)) => GOT_CUT,
+        Err(_) => GOT_REFUSED,
     }
 }
 
-fn outcome_number(outcome: Outcome) -> u8
-    ensures { result ≡ outcome_number outcome }
+// A record's length, a cut's place.
+fn outcome_data(outcome: Result<Outcome, Refusal>) -> usize
+    ensures { result ≡ outcome_data outcome }
 {
     match outcome {
-        Outcome::Record(_) => DONE,
-        Outcome::Mark => DONE,
-        Outcome::End => DONE,
-        Outcome::Bad => DONE,
-        Outcome::Stray => DONE,
-        Outcome::Cut(_) => DONE,
-        Outcome::Refused(n) => n,
+        Ok(Outcome::Record(n)) => n,
+        Ok(Outcome::Cut(q)) => q,
+        _ => 0,
     }
 }
 
-fn outcome_data(outcome: Outcome) -> usize
-    ensures { result ≡ outcome_value outcome }
-{
-    match outcome {
-        Outcome::Record(n) => n,
-        Outcome::Mark => 0,
-        Outcome::End => 0,
-        Outcome::Bad => 0,
-        Outcome::Stray => 0,
-        Outcome::Cut(q) => q,
-        Outcome::Refused(_) => 0,
+impl From<Got> for NbGot {
+    ghost from_gives = { λ got flat. flat ≡ flat_got got };
+
+    fn from(got: Got) -> NbGot {
+        NbGot {
+            outcome: outcome_code(got.outcome),
+            number: number_of(got.outcome),
+            data: outcome_data(got.outcome),
+            next: got.next,
+        }
     }
 }
 
-fn flat_got(got: Got) -> NbGot
-    ensures { result ≡ flat_got got }
-{
-    let outcome = got.outcome;
-    NbGot {
-        outcome: outcome_code(outcome),
-        number: outcome_number(outcome),
-        data: outcome_data(outcome),
-        next: got.next,
-    }
-}
-
-// ---- The calls.
+// ---- The calls. C lends what a Cartridge holds part by part.
 #[unsafe(no_mangle)]
 pub extern "C" fn nb_read(
     key: &[u8],
@@ -105,7 +91,13 @@ pub extern "C" fn nb_read(
     ensures { FlatRead key.now id recording image.now p buffer.old
         result buffer.new }
 {
-    flat_got(reader::read(key, id, recording, image, p, buffer))
+    let cartridge = Cartridge {
+        key,
+        id,
+        recording,
+        image,
+    };
+    NbGot::from(reader::read(cartridge, p, buffer))
 }
 
 #[unsafe(no_mangle)]
@@ -123,22 +115,19 @@ pub extern "C" fn nb_record_part(buffer: &[u8], length: usize) -> NbPart
 pub extern "C" fn nb_look_number(image: &[u8], p: usize) -> u8
     ensures { result ≡ look_number image.now p }
 {
-    reader::look_number(image, p)
+    number_of(reader::look_number(image, p))
 }
 
 #[unsafe(no_mangle)]
 pub extern "C" fn nb_look(image: &[u8], p: usize) -> NbPart
     ensures { result ≡ looked_at image.now p }
 {
-    let part = reader::look(image, p);
-    if reader::look_number(image, p) == DONE {
-        return NbPart {
+    let length = reader::look(image, p).len();
+    match reader::look_number(image, p) {
+        Ok(()) => NbPart {
             offset: BLOCK_BYTES * p,
-            length: part.len(),
-        };
-    }
-    NbPart {
-        offset: 0,
-        length: part.len(),
+            length,
+        },
+        Err(_) => NbPart { offset: 0, length },
     }
 }

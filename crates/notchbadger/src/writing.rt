@@ -1,12 +1,13 @@
 // The writer. Its state crosses as one struct; the closed flag is 0 or 1.
 ghost use Rattle.std.specs.Prelude.{◌≡◌};
-ghost use Rattle.block.specs.Content.{flag};
+ghost use Rattle.numbers.specs.Refusals.{number_of};
 ghost use Rattle.writer.specs.Items.{rec, fmark};
-ghost use Rattle.writer.specs.Writing.{reply_number, start, write, close};
-ghost use Rattle.notchbadger.specs.FlatWriter.{reply_code, flat_state, state_of, flat_wrote};
+ghost use Rattle.writer.specs.Writing.{start, write, close};
+ghost use Rattle.notchbadger.specs.FlatWriter.{reply_code, flat_state, state_of, came_in, flat_wrote};
 ghost use Rattle.notchbadger.specs.FlatWriter.{flag_number, sent_back, FlatDid, FlatStarted};
 
-use numbers::{DONE, UNLAWFUL};
+use super::number_of;
+use numbers::Refusal;
 use writer::{Reply, WriterState, Wrote};
 
 // ---- What crosses.
@@ -30,90 +31,79 @@ pub struct NbWrote {
     pub number: u8,
 }
 
-// A reply's codes.
+// A reply's codes: C has no enum whose cases hold a value.
 pub const PLAIN: u8 = 0;
 
 pub const WARNED: u8 = 1;
 
 pub const REFUSED: u8 = 2;
 
-fn reply_code(reply: Reply) -> u8
+fn reply_code(reply: Result<Reply, Refusal>) -> u8
     ensures { result ≡ reply_code reply }
 {
     match reply {
-        Reply::Plain => PLAIN,
-        Reply::Warned => WARNED,
-        Reply::Refused(_) => REFUSED,
+        Ok(Reply::Plain) => PLAIN,
+        Ok(Reply::Warned) => WARNED,
+        Err(_) => REFUSED,
     }
 }
 
-fn reply_number(reply: Reply) -> u8
-    ensures { result ≡ reply_number reply }
-{
-    match reply {
-        Reply::Plain => DONE,
-        Reply::Warned => DONE,
-        Reply::Refused(n) => n,
+impl From<WriterState> for NbState {
+    ghost from_gives = { λ state flat. flat ≡ flat_state state };
+
+    fn from(state: WriterState) -> NbState {
+        NbState {
+            id: state.id,
+            recording: state.recording,
+            capacity: state.capacity,
+            zone: state.zone,
+            position: state.position,
+            closed: u8::from(state.closed),
+            marks: state.marks,
+        }
     }
 }
 
-fn flag_of(closed: bool) -> u8
-    ensures { result ≡ flag closed }
-{
-    if closed { 1 } else { 0 }
-}
+impl From<Wrote> for NbWrote {
+    ghost from_gives = { λ wrote flat. flat ≡ flat_wrote wrote };
 
-fn flat_state(state: WriterState) -> NbState
-    ensures { result ≡ flat_state state }
-{
-    NbState {
-        id: state.id,
-        recording: state.recording,
-        capacity: state.capacity,
-        zone: state.zone,
-        position: state.position,
-        closed: flag_of(state.closed),
-        marks: state.marks,
+    fn from(wrote: Wrote) -> NbWrote {
+        NbWrote {
+            state: NbState::from(wrote.state),
+            reply: reply_code(wrote.reply),
+            number: number_of(wrote.reply),
+        }
     }
 }
 
-fn flat(wrote: Wrote) -> NbWrote
-    ensures { result ≡ flat_wrote wrote }
-{
-    let was = wrote.state;
-    let reply = wrote.reply;
-    let state = flat_state(was);
-    NbWrote {
-        state,
-        reply: reply_code(reply),
-        number: reply_number(reply),
+// A state as it came in is the writer's where its flag is 0 or 1.
+impl TryFrom<NbState> for WriterState {
+    type Error = Refusal;
+
+    ghost try_from_gives = { λ state writer. writer ≡ came_in state };
+
+    fn try_from(state: NbState) -> Result<WriterState, Refusal> {
+        if 1 < state.closed {
+            return Err(Refusal::Unlawful);
+        }
+        Ok(WriterState {
+            id: state.id,
+            recording: state.recording,
+            capacity: state.capacity,
+            zone: state.zone,
+            position: state.position,
+            closed: state.closed == 1,
+            marks: state.marks,
+        })
     }
 }
 
-// The writer's state, where the flag is 0 or 1.
-fn state_of(state: NbState) -> WriterState
-    ensures { result ≡ state_of state }
+// Why a call on a state with another flag is refused: the image and the key come first.
+fn odd_flag(key: &[u8], image: &[u8]) -> Result<(), Refusal>
+    ensures { number_of result ≡ flag_number key.now image.now }
 {
-    WriterState {
-        id: state.id,
-        recording: state.recording,
-        capacity: state.capacity,
-        zone: state.zone,
-        position: state.position,
-        closed: state.closed == 1,
-        marks: state.marks,
-    }
-}
-
-// The number of a state whose flag is neither 0 nor 1.
-fn flag_number(key: &[u8], image: &[u8]) -> u8
-    ensures { result ≡ flag_number key.now image.now }
-{
-    let number = block::image_then_key(key, image);
-    if number != DONE {
-        return number;
-    }
-    UNLAWFUL
+    block::image_then_key(key, image)?;
+    Err(Refusal::Unlawful)
 }
 
 // The answer to it: the state as it was given.
@@ -123,7 +113,7 @@ fn sent_back(state: NbState, key: &[u8], image: &[u8]) -> NbWrote
     NbWrote {
         state,
         reply: REFUSED,
-        number: flag_number(key, image),
+        number: number_of(odd_flag(key, image)),
     }
 }
 
@@ -132,7 +122,7 @@ fn sent_back(state: NbState, key: &[u8], image: &[u8]) -> NbWrote
 pub extern "C" fn nb_start(id: u32, recording: u64, zone: usize, image: &mut [u8]) -> NbWrote
     ensures { FlatStarted (start id recording zone image.old) result image.new }
 {
-    flat(writer::start(id, recording, zone, image))
+    NbWrote::from(writer::start(id, recording, zone, image))
 }
 
 #[unsafe(no_mangle)]
@@ -141,11 +131,10 @@ pub extern "C" fn nb_record(state: NbState, key: &[u8], bytes: &[u8], image: &mu
         (write (state_of state) key.now image.old (rec bytes.now))
         result image.new }
 {
-    if 1 < state.closed {
-        return sent_back(state, key, image);
+    match WriterState::try_from(state) {
+        Ok(writer) => NbWrote::from(writer.record(key, bytes, image)),
+        Err(_) => sent_back(state, key, image),
     }
-    let writer = state_of(state);
-    flat(writer.record(key, bytes, image))
 }
 
 #[unsafe(no_mangle)]
@@ -153,11 +142,10 @@ pub extern "C" fn nb_mark(state: NbState, key: &[u8], image: &mut [u8]) -> NbWro
     ensures { FlatDid state key.now image.old
         (write (state_of state) key.now image.old fmark) result image.new }
 {
-    if 1 < state.closed {
-        return sent_back(state, key, image);
+    match WriterState::try_from(state) {
+        Ok(writer) => NbWrote::from(writer.mark(key, image)),
+        Err(_) => sent_back(state, key, image),
     }
-    let writer = state_of(state);
-    flat(writer.mark(key, image))
 }
 
 #[unsafe(no_mangle)]
@@ -165,9 +153,8 @@ pub extern "C" fn nb_close(state: NbState, key: &[u8], image: &mut [u8]) -> NbWr
     ensures { FlatDid state key.now image.old
         (close (state_of state) key.now image.old) result image.new }
 {
-    if 1 < state.closed {
-        return sent_back(state, key, image);
+    match WriterState::try_from(state) {
+        Ok(writer) => NbWrote::from(writer.close(key, image)),
+        Err(_) => sent_back(state, key, image),
     }
-    let writer = state_of(state);
-    flat(writer.close(key, image))
 }

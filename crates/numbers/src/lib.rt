@@ -1,7 +1,11 @@
-// The numbers that a caller can get back, and the sizes and limits of the format: each stands here once. The header's defines are held to
+// The numbers that a caller can get back, and the sizes and limits of the format: each stands here once, and the
+// enum of the causes. The header's defines are held to
 // this table by ./check (NB_ before the name), and the definitions in specs/ say them again as the pages do, so that a proof fails where
 // the two differ.
 #![tactic(auto)]
+
+ghost use Rattle.std.specs.Prelude.{◌≡◌};
+ghost use Rattle.numbers.specs.Refusals.{cause_number};
 
 // ---- Carried out, and the causes of a refusal.
 pub const DONE: u8 = 0;
@@ -32,6 +36,38 @@ pub const UNLAWFUL: u8 = 8;
 
 // more bytes than OPERATION_MAX, DATA_MAX or MESSAGE_MAX
 pub const ABOVE_LIMIT: u8 = 9;
+
+// Why a call was refused, a case for each number.
+#[derive(Clone, Copy, Debug, PartialEq, Eq)]
+pub enum Refusal {
+    WrongImage,
+    WrongLength,
+    WrongZone,
+    WrongRecord,
+    NoRoom,
+    Closed,
+    WrongTag,
+    Unlawful,
+    AboveLimit,
+}
+
+impl From<Refusal> for u8 {
+    ghost from_gives = { λ refusal number. number ≡ cause_number refusal };
+
+    fn from(refusal: Refusal) -> u8 {
+        match refusal {
+            Refusal::WrongImage => WRONG_IMAGE,
+            Refusal::WrongLength => WRONG_LENGTH,
+            Refusal::WrongZone => WRONG_ZONE,
+            Refusal::WrongRecord => WRONG_RECORD,
+            Refusal::NoRoom => NO_ROOM,
+            Refusal::Closed => CLOSED,
+            Refusal::WrongTag => WRONG_TAG,
+            Refusal::Unlawful => UNLAWFUL,
+            Refusal::AboveLimit => ABOVE_LIMIT,
+        }
+    }
+}
 
 // ---- Sealing.
 pub const STATE_BYTES: usize = 64;

@@ -1,159 +1,192 @@
 // What goes wrong: a line on standard error that says what is wrong and what was expected.
-// `rt` has the arguments, and `err` is standard error.
-use numbers::{BLOCK_BYTES, IMAGE_MOST, KEY_BYTES, WRONG_IMAGE};
+use numbers::{BLOCK_BYTES, IMAGE_MOST};
+use print::NotANumber;
 use std::env::Env;
 use std::io::Write;
-use std::{io, str};
+use std::{fmt, io, str};
 
-fn put<E: Print>(err: &E, text: &[u8]) {
-    print::say(err, text);
+// What stands behind the program's name, in its order.
+#[derive(Clone, Copy, Debug, PartialEq, Eq)]
+pub enum Argument {
+    Image = 1,
+    Key = 2,
+    Id = 3,
+    Recording = 4,
 }
 
-// Argument i, as it was given.
-fn put_argument<R: Env, E: Print>(rt: &R, err: &E, i: usize) {
-    let mut text = [0u8; 4096];
-    if let Ok(n) = rt.arg(i, &mut text) {
-        put(err, &text[..n]);
+impl fmt::Display for Argument {
+    fn fmt<W: fmt::Write>(&self, f: &mut fmt::Formatter<W>) -> fmt::Result {
+        match self {
+            Argument::Image => write!(f, "image"),
+            Argument::Key => write!(f, "key"),
+            Argument::Id => write!(f, "cartridge id"),
+            Argument::Recording => write!(f, "recording number"),
+        }
     }
 }
 
-// How many bytes a file has, of which at most one more than `most` were read.
-fn put_size<E: Print>(err: &E, n: usize, most: usize) {
-    if most < n {
-        put(err, b" has more than ");
-        print::decimal(err, most as u64);
-    } else {
-        put(err, b" has ");
-        print::decimal(err, n as u64);
-    }
-    put(err, b" bytes");
+// Why a walk is not done. A key file that is no key may be one with a line end behind it, or a key in hexadecimal.
+#[derive(Clone, Copy)]
+pub enum Complaint {
+    Usage,
+    WrongId(NotANumber),
+    WrongRecording(NotANumber),
+    UnreadableImage(io::Error),
+    UnreadableKey(io::Error),
+    WrongImage {
+        bytes: usize,
+    },
+    WrongKey {
+        bytes: usize,
+        is_line: bool,
+        is_hexadecimal: bool,
+    },
+    Output(io::Error),
 }
 
-// ---- Arguments.
-pub fn usage<E: Print>(err: &E) {
-    put(err, b"walk: expected 4 arguments\n");
-    put(
-        err,
-        b"usage: walk IMAGE KEY ID RECORDING (walk --help says more)\n",
-    );
-}
-
-pub fn wrong_id<R: Env, E: Print>(rt: &R, err: &E, wrong: &[u8]) {
-    put(err, b"walk: the cartridge id \"");
-    put_argument(rt, err, 3);
-    put(err, wrong);
-    put(err, b": it is a number from 0 to 4294967295\n");
-}
-
-pub fn wrong_recording<R: Env, E: Print>(rt: &R, err: &E, wrong: &[u8]) {
-    put(err, b"walk: the recording number \"");
-    put_argument(rt, err, 4);
-    put(err, wrong);
-    put(err, b": it is a number from 0 to 18446744073709551615\n");
-}
-
-// ---- Files.
-// The words of an error's text, without the number of the system's in brackets behind them.
-fn words(text: &str) -> &[u8] {
-    match text.split_once(" (os error ") {
-        Some((words, _)) => words.as_bytes(),
-        None => text.as_bytes(),
-    }
-}
-
-// What stands behind what failed: why it did, and the line's end.
-fn put_reason<E: Print>(err: &E, error: io::Error) {
-    let mut room = [0u8; 256];
-    let mut rest = &mut room[..];
-    let _ = write!(rest, "{error}");
-    let n = 256usize.saturating_sub(rest.len());
-    put(err, b": ");
-    if let Ok(text) = str::from_utf8(&room[..n]) {
-        put(err, words(text));
-    }
-    put(err, b"\n");
-}
-
-// The error says why.
-pub fn unreadable<E: Print>(err: &E, what: &[u8], name: &[u8], error: io::Error) {
-    put(err, b"walk: can't read the ");
-    put(err, what);
-    put(err, name);
-    put_reason(err, error);
-}
-
-pub fn output<E: Print>(err: &E, error: io::Error) {
-    put(err, b"walk: can't write to standard output");
-    put_reason(err, error);
-}
-
-// ---- Refusals by number: the image or the key has not its size.
+// ---- Parts of a line. `rt` has the arguments, and `err` is standard error.
 const IMAGE_LIMIT: usize = IMAGE_MOST * BLOCK_BYTES;
-
-fn wrong_image<R: Env, E: Print>(rt: &R, err: &E, n: usize) {
-    put(err, b"walk: the image ");
-    put_argument(rt, err, 1);
-    put_size(err, n, IMAGE_LIMIT);
-    if n % BLOCK_BYTES != 0 {
-        if n < IMAGE_LIMIT {
-            put(err, b" and ends inside a block");
-        }
-    }
-    put(err, b": an image has 4 to 128 blocks of 512 bytes\n");
-}
-
-fn is_hex(c: u8) -> bool {
-    match c {
-        48..=57 => true,
-        65..=70 => true,
-        97..=102 => true,
-        _ => false,
-    }
-}
-
-// The hexadecimal digits that a text begins with.
-fn hex_digits(text: &[u8]) -> usize {
-    let mut i: usize = 0;
-    while i < text.len() {
-        if !is_hex(text[i]) {
-            return i;
-        }
-        i += 1;
-    }
-    i
-}
-
-// A key with a line end behind it, of one byte or two.
-fn is_line(text: &[u8]) -> bool {
-    if text.len() <= KEY_BYTES {
-        return false;
-    }
-    if KEY_BYTES + 2 < text.len() {
-        return false;
-    }
-    text[text.len() - 1] == 10
-}
 
 // Of a key file this much is read, and told: a key in hexadecimal too.
 pub const KEY_SHOWN: usize = 64;
 
-fn wrong_key<R: Env, E: Print>(rt: &R, err: &E, key: &[u8]) {
-    put(err, b"walk: the key ");
-    put_argument(rt, err, 2);
-    put_size(err, key.len(), KEY_SHOWN);
-    if is_line(key) {
-        put(err, b", the last a newline");
+// An argument's bytes, which need not be text.
+fn as_given<R: Env, E: Print>(rt: &R, err: &E, argument: Argument) -> io::Result<()> {
+    let mut text = [0u8; 4096];
+    match rt.arg(argument as usize, &mut text) {
+        Ok(n) => err.write_all(&text[..n]),
+        Err(_) => Ok(()),
     }
-    if hex_digits(key) == 2 * KEY_BYTES {
-        put(err, b" and looks like hexadecimal");
-    }
-    put(err, b": a key file has 24 bytes and nothing else\n");
 }
 
-pub fn refused<R: Env, E: Print>(rt: &R, err: &E, number: u8, key: &[u8], n: usize) {
-    if number == WRONG_IMAGE {
-        wrong_image(rt, err, n);
-    } else {
-        wrong_key(rt, err, key);
+// How many bytes a file has, of which at most one more than `most` were read.
+#[derive(Clone, Copy)]
+struct Size {
+    bytes: usize,
+    most: usize,
+}
+
+impl fmt::Display for Size {
+    fn fmt<W: fmt::Write>(&self, f: &mut fmt::Formatter<W>) -> fmt::Result {
+        let Size { bytes, most } = *self;
+        if most < bytes {
+            write!(f, "more than {most} bytes")
+        } else {
+            write!(f, "{bytes} bytes")
+        }
     }
+}
+
+// An error's words, without the number of the system's in brackets behind them.
+#[derive(Clone, Copy)]
+struct Words(io::Error);
+
+impl fmt::Display for Words {
+    fn fmt<W: fmt::Write>(&self, f: &mut fmt::Formatter<W>) -> fmt::Result {
+        let error = self.0;
+        let mut room = [0u8; 256];
+        let mut rest = &mut room[..];
+        let _ = write!(rest, "{error}");
+        let n = 256usize.saturating_sub(rest.len());
+        let text = str::from_utf8(&room[..n]).unwrap_or("");
+        match text.split_once(" (os error ") {
+            Some((words, _)) => write!(f, "{words}"),
+            None => write!(f, "{text}"),
+        }
+    }
+}
+
+impl Complaint {
+    pub fn tell<R: Env, E: Print>(self, rt: &R, err: &E) -> io::Result<()> {
+        print!(err; "walk: ")?;
+        match self {
+            Complaint::Usage => usage(err),
+            Complaint::WrongId(why) => {
+                wrong_number(rt, err, Argument::Id, why, u64::from(u32::MAX))
+            }
+            Complaint::WrongRecording(why) => {
+                wrong_number(rt, err, Argument::Recording, why, u64::MAX)
+            }
+            Complaint::UnreadableImage(error) => unreadable(rt, err, Argument::Image, error),
+            Complaint::UnreadableKey(error) => unreadable(rt, err, Argument::Key, error),
+            Complaint::WrongImage { bytes } => wrong_image(rt, err, bytes),
+            Complaint::WrongKey {
+                bytes,
+                is_line,
+                is_hexadecimal,
+            } => { wrong_key(rt, err, bytes, is_line, is_hexadecimal) }
+            Complaint::Output(error) => {
+                println!(err; "can't write to standard output: {}", Words(error))
+            }
+        }
+    }
+}
+
+fn usage<E: Print>(err: &E) -> io::Result<()> {
+    println!(err; "expected 4 arguments")?;
+    println!(err; "usage: walk IMAGE KEY ID RECORDING (walk --help says more)")
+}
+
+fn wrong_number<R: Env, E: Print>(
+    rt: &R,
+    err: &E,
+    argument: Argument,
+    why: NotANumber,
+    most: u64,
+) -> io::Result<()> {
+    print!(err; "the {argument} \"")?;
+    as_given(rt, err, argument)?;
+    println!(err; "\" {why}: it is a number from 0 to {most}")
+}
+
+fn unreadable<R: Env, E: Print>(
+    rt: &R,
+    err: &E,
+    argument: Argument,
+    error: io::Error,
+) -> io::Result<()> {
+    print!(err; "can't read the {argument} ")?;
+    as_given(rt, err, argument)?;
+    println!(err; ": {}", Words(error))
+}
+
+fn wrong_image<R: Env, E: Print>(rt: &R, err: &E, bytes: usize) -> io::Result<()> {
+    print!(err; "the image ")?;
+    as_given(rt, err, Argument::Image)?;
+    print!(err;
+        " has {}",
+        Size {
+            bytes,
+            most: IMAGE_LIMIT
+        }
+    )?;
+    if bytes < IMAGE_LIMIT && bytes % BLOCK_BYTES != 0 {
+        print!(err; " and ends inside a block")?;
+    }
+    println!(err; ": an image has 4 to 128 blocks of 512 bytes")
+}
+
+fn wrong_key<R: Env, E: Print>(
+    rt: &R,
+    err: &E,
+    bytes: usize,
+    is_line: bool,
+    is_hexadecimal: bool,
+) -> io::Result<()> {
+    print!(err; "the key ")?;
+    as_given(rt, err, Argument::Key)?;
+    print!(err;
+        " has {}",
+        Size {
+            bytes,
+            most: KEY_SHOWN
+        }
+    )?;
+    if is_line {
+        print!(err; ", the last a newline")?;
+    }
+    if is_hexadecimal {
+        print!(err; " and looks like hexadecimal")?;
+    }
+    println!(err; ": a key file has 24 bytes and nothing else")
 }

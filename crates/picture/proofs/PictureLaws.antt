@@ -18,7 +18,7 @@ use Rattle.laws.proofs.OrderLaws.{lt_or_ge}
 use Rattle.block.specs.Image.{View, capacity_of, image_then_key, view}
 use Rattle.block.proofs.ImageSize.{Asked, asks_refused, asks_rest, asked}
 use Rattle.reader.specs.declared.Got.{Got}
-use Rattle.reader.specs.Walk.{Told, Record, Mark, End, Bad, Stray, Cut, Answer, is_end, read_at, Visit, visit, walk_from, walk}
+use Rattle.reader.specs.Walk.{Told, Record, Mark, End, Bad, Stray, Cut, is_end, read_at, Visit, visit, walk_from, walk}
 use Rattle.reader.specs.Reading.{outcome_of, read_number, read_answer, got_of, Read}
 use Rattle.reader.proofs.WalkLaws.{read_onward, walk_from_over, walk_from_step}
 use Rattle.picture.specs.Picture.{glyph_of, reach, pictured, draw_number, drawn}
@@ -69,13 +69,6 @@ module _ (key : List ℕ) (id recording : ℕ) (image out : List ℕ) where
 pub read_done : {key image b b' : List ℕ} {id recording p : ℕ} {g : Got} → Read key id recording image p b g b' → read_number key image p (length b) ≡ 0
     → g ≡ got_of (read_answer key id recording image p)
 read_done {key = key} {image = image} {b = b} {p = p} r e = r.says ∙ rw (eq-eqb (read_number key image p (length b)) 0 e)
-
-pub got_reaches : (a : Answer) (c : ℕ) {g : Got} {q : ℕ} → g ≡ got_of a → q ≡ reaches g.outcome g.next c → q ≡ reached a c
-got_reaches a c e f = f ∙ ap (λ (g : Got). reaches g.outcome g.next c) e
-
-pub got_painted : (a : Answer) (p : ℕ) (out : List ℕ) {g : Got} {q : ℕ} {out' : List ℕ} → g ≡ got_of a → q ≡ reached a (length out)
-    → out' ≡ painted g.outcome p q out → out' ≡ answered a p out
-got_painted a p out e f h = h ∙ ap₂ (λ (g : Got) (q : ℕ). painted g.outcome p q out) e f
 
 -- ---- where an answer reaches: to the end, or as far as it goes on
 reaches_end : (t : Told) (n c : ℕ) → is_end t ≡ true → reaches (outcome_of t) n c ≡ c

@@ -8,8 +8,8 @@ use Rattle.reader.specs.declared.Outcome.TheVariants as o
 use Rattle.reader.specs.Walk.{Visit, walk}
 use Rattle.reader.specs.Reading.{outcome_of}
 
--- block b in the answer at p: R a record, r its other blocks, M a mark, E end of data and . what is behind it, x a block that does not open,
--- s a stray, c a record that is cut, up to the break
+-- block b in the answer at p: R a record, r its other blocks, M a mark, E end of data and . what is behind it, x a
+-- block that does not open, s a stray, c a record that is cut, up to the break
 abbrev pub glyph_of : Outcome → ℕ → ℕ → ℕ
 glyph_of (o.Record n) p b = pick (eqb b p) 82 114
 glyph_of o.Mark p b = 77
@@ -17,7 +17,6 @@ glyph_of o.End p b = pick (eqb b p) 69 46
 glyph_of o.Bad p b = 120
 glyph_of o.Stray p b = 115
 glyph_of (o.Cut q) p b = pick (ltb b q) 99 120
-glyph_of (o.Refused n) p b = 46
 
 -- an answer reaches as far as the next one, and the last one to the end of the c blocks
 abbrev pub reach : ℕ → List Visit → ℕ

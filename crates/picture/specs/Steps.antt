@@ -7,7 +7,7 @@ use Rattle.reader.specs.Walk.{Answer}
 use Rattle.reader.specs.Reading.{outcome_of}
 use Rattle.picture.specs.Picture.{glyph_of}
 
--- an answer that goes on at `next`: as far as that, and End (or a refusal) to the end of the c blocks
+-- an answer that goes on at `next`: as far as that, and End to the end of the c blocks
 abbrev pub reaches : Outcome → ℕ → ℕ → ℕ
 reaches (o.Record n) next c = next
 reaches o.Mark next c = next
@@ -15,7 +15,6 @@ reaches o.End next c = c
 reaches o.Bad next c = next
 reaches o.Stray next c = next
 reaches (o.Cut q) next c = next
-reaches (o.Refused n) next c = c
 
 abbrev pub reached : Answer → ℕ → ℕ
 reached a c = reaches (outcome_of a.told) a.next c

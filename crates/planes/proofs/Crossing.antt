@@ -1,16 +1,19 @@
 -- The transposition: two words crossed, a digit of all eight, the three digits together.
 -- Assumes nothing.
-use mathlib.Core.Path.{◌≡◌, refl, sym, ap, ap₂, ◌∙◌}
+use mathlib.Core.Path.{◌≡◌, refl, sym, ap, ap₂, subst, ◌∙◌}
 use mathlib.Core.Bool.{Bool}
+use mathlib.Core.List.{List}
 use mathlib.Core.Logic.{⊎_elim}
-use Prim.Native.Nat.{ℕ, ◌+◌, ◌-◌, ◌*◌, ◌/◌, ◌%◌, ◌^◌, ◌<◌}
+use Prim.Native.Nat.{ℕ, ◌+◌, ◌-◌, ◌*◌, ◌/◌, ◌%◌, ◌^◌, ◌<◌, ◌≤◌}
 use native.Mathlib.Nat.{mod-lt}
 use native.Mathlib.Omega.{arith}
 use lib.Dec.{T, lit<, eqb, ltb, eqb→eq, ltb→lt}
 use lib.Bits.{bit_and, bit_xor, xor_zero_r}
-use Rattle.laws.proofs.OrderLaws.{lt_or_ge, below2, below8}
+use lib.ListN.{length, get_or, set, length-set}
+use lib.Seq.{get_or-set_same, get_or-set_other}
+use Rattle.laws.proofs.OrderLaws.{lt_or_ge, below2}
 use Rattle.planes.specs.Planes.{bit, flipped, word, bytes_of}
-use Rattle.planes.specs.Packing.{two, put, Across, Crosswise, Crossed}
+use Rattle.planes.specs.Packing.{two, put, CrossedWord, Across, Crosswise, Crossed}
 use Rattle.planes.specs.declared.Planes.{Planes}
 use Rattle.planes.proofs.Tests.{upto, tested, tested₂}
 use Rattle.planes.proofs.BitLaws.{bit_low, bit_xor_lem, bit_and_lem, bit_shr, shl_up, shl_under}
@@ -65,6 +68,9 @@ module _ (d m a b : ℕ) (c : Crossed d m) where
   cross_is = record { low = cross_low; high = cross_high }
 
 -- ---- a mask, by tests of its 64 places
+abbrev pub inside_right : ℕ → ℕ → Bool
+inside_right d i = ltb (two (i / d % 2) (i + d) 0) 8
+
 abbrev pub mask_right : ℕ → ℕ → ℕ → Bool
 mask_right d m n = eqb (bit n m) (1 - n / d % 2)
 
@@ -74,10 +80,13 @@ lower_right d n = eqb (n / d % 2) 0
 abbrev pub upper_right : ℕ → ℕ → Bool
 upper_right d n = eqb (n / d % 2) (1 - (n + d) / d % 2)
 
-pub crossed : (d m : ℕ) → d < 64 → T (upto (mask_right d m) 64) → T (upto (lower_right d) d) → T (upto (upper_right d) 64) → Crossed d m
-crossed d m h t u v =
+pub crossed : (d m : ℕ) → 0 < d → d < 64 → T (upto (inside_right d) 8) → T (upto (mask_right d m) 64) → T (upto (lower_right d) d) → T (upto (upper_right d) 64) → Crossed d m
+unfolding two
+crossed d m p h s t u v =
     record {
+      positive = p;
       small = h;
+      inside = λ i g e. subst (λ (k : ℕ). two k (i + d) 0 < 8) e (ltb→lt _ _ (tested (inside_right d) 8 s i g));
       mask = λ n g. eqb→eq _ _ (tested (mask_right d m) 64 t n g);
       lower = λ n g. eqb→eq _ _ (tested (lower_right d) d u n g);
       upper = λ n g. eqb→eq _ _ (tested (upper_right d) 64 v n g);
@@ -88,26 +97,94 @@ either : (w : Planes) (i j n m e : ℕ) → e < 2 → two e (bit n (word w i)) (
 unfolding two
 either w i j n m e h = below2 (λ (e : ℕ). two e (bit n (word w i)) (bit m (word w j)) ≡ bit (two e n m) (word w (two e i j))) refl refl e h
 
--- what two crossed words say of the words i and j = i + d
-module _ (w : Planes) (d i j x y : ℕ) (c : Crosswise d (word w i) (word w j) x y) where
-  pub crossed_low : (n : ℕ) → n < 64 → bit n x ≡ bit (two (n / d % 2) n (n - d)) (word w (two (n / d % 2) i j))
-  crossed_low n h = c.low n h ∙ either w i j n (n - d) (n / d % 2) (mod-lt (n / d) (lit< tt))
+differ : (x : ℕ) → x ≡ 1 → x ≡ 0 → ⊥
+differ x e f = omega arith
 
-  pub crossed_high : (n : ℕ) → n < 64 → bit n y ≡ bit (two (n / d % 2) (n + d) n) (word w (two (n / d % 2) i j))
-  crossed_high n h = c.high n h ∙ either w i j (n + d) n (n / d % 2) (mod-lt (n / d) (lit< tt))
+-- the words j and j + d of a list are crossed
+abbrev pub PairCrossed : ℕ → Planes → List ℕ → ℕ → Type 0
+PairCrossed d w l j = CrossedWord d w j (get_or l j 0) × CrossedWord d w (j + d) (get_or l (j + d) 0)
 
-pub across_by : (d : ℕ) (w r : Planes)
-    → ((n : ℕ) → n < 64 → bit n (word r 0) ≡ bit (put d n 0) (word w (put d 0 n)))
-    → ((n : ℕ) → n < 64 → bit n (word r 1) ≡ bit (put d n 1) (word w (put d 1 n)))
-    → ((n : ℕ) → n < 64 → bit n (word r 2) ≡ bit (put d n 2) (word w (put d 2 n)))
-    → ((n : ℕ) → n < 64 → bit n (word r 3) ≡ bit (put d n 3) (word w (put d 3 n)))
-    → ((n : ℕ) → n < 64 → bit n (word r 4) ≡ bit (put d n 4) (word w (put d 4 n)))
-    → ((n : ℕ) → n < 64 → bit n (word r 5) ≡ bit (put d n 5) (word w (put d 5 n)))
-    → ((n : ℕ) → n < 64 → bit n (word r 6) ≡ bit (put d n 6) (word w (put d 6 n)))
-    → ((n : ℕ) → n < 64 → bit n (word r 7) ≡ bit (put d n 7) (word w (put d 7 n)))
-    → Across d w r
-across_by d w r e₀ e₁ e₂ e₃ e₄ e₅ e₆ e₇ =
-    below8 (λ (i : ℕ). (n : ℕ) → n < 64 → bit n (word r i) ≡ bit (put d n i) (word w (put d i n))) e₀ e₁ e₂ e₃ e₄ e₅ e₆ e₇
+-- those below i are
+abbrev pub CrossedTo : ℕ → Planes → ℕ → List ℕ → Type 0
+CrossedTo d w i l = (length l ≡ 8) × ((j : ℕ) → j < i → j / d % 2 ≡ 0 → PairCrossed d w l j)
+
+module _ (d m : ℕ) (w : Planes) (c : Crossed d m) where
+  digit : (i : ℕ) → i < 64 → i / d % 2 ≡ 0 → (i + d) / d % 2 ≡ 1
+  digit i h e = let f : 0 ≡ 1 - (i + d) / d % 2 = sym e ∙ c.upper i h in one ((i + d) / d % 2) (mod-lt ((i + d) / d) (lit< tt)) f
+    where
+      one : (x : ℕ) → x < 2 → 0 ≡ 1 - x → x ≡ 1
+      one x h e = omega arith
+
+  low_word : (i x y : ℕ) → i / d % 2 ≡ 0 → Crosswise d (word w i) (word w (i + d)) x y → CrossedWord d w i x
+  unfolding put two
+  low_word i x y e a n h =
+      a.low n h ∙ either w i (i + d) n (n - d) (n / d % 2) (mod-lt (n / d) (lit< tt))
+      ∙ sym (ap (λ (k : ℕ). bit (two k (two (n / d % 2) n (n - d)) (two (n / d % 2) (n + d) n)) (word w (two (n / d % 2) (two k i (i - d)) (two k (i + d) i)))) e)
+
+  high_word : (i x y : ℕ) → i < 64 → i / d % 2 ≡ 0 → Crosswise d (word w i) (word w (i + d)) x y → CrossedWord d w (i + d) y
+  unfolding put two
+  high_word i x y l e a n h =
+      let f : i + d - d ≡ i = omega arith in
+      a.high n h ∙ either w i (i + d) (n + d) n (n / d % 2) (mod-lt (n / d) (lit< tt))
+      ∙ sym (ap₂ (λ (k j : ℕ). bit (two k (two (n / d % 2) n (n - d)) (two (n / d % 2) (n + d) n)) (word w (two (n / d % 2) (two k (i + d) j) (two k (i + d + d) (i + d))))) (digit i l e) f)
+
+  -- the loop has crossed the pairs below i, and one more
+  crossed_all_below : (i x y : ℕ) (l : List ℕ) → length l ≡ 8 → i < 8 → i / d % 2 ≡ 0 → Crosswise d (word w i) (word w (i + d)) x y
+      → ((j : ℕ) → j < i → j / d % 2 ≡ 0 → PairCrossed d w l j)
+      → (j : ℕ) → j < i + 1 → j / d % 2 ≡ 0 → PairCrossed d w (set (set l i x) (i + d) y) j
+  crossed_all_below i x y l len h e a p j g f = ⊎_elim before here (lt_or_ge j i)
+    where
+      r : List ℕ
+      r = set (set l i x) (i + d) y
+
+      other : (k : ℕ) → (k ≡ i → ⊥) → (k ≡ i + d → ⊥) → get_or r k 0 ≡ get_or l k 0
+      other k u v = get_or-set_other (set l i x) (i + d) k y 0 v ∙ get_or-set_other l i k x 0 u
+
+      before : j < i → PairCrossed d w r j
+      before q =
+          let z : j + d ≡ i → ⊥ = λ s. differ ((j + d) / d % 2) (digit j (omega arith) f) (ap (λ (k : ℕ). k / d % 2) s ∙ e) in (
+            λ n hn. ap (bit n) (other j (λ s. omega arith) (λ s. omega arith)) ∙ (p j q f).0 n hn,
+            λ n hn. ap (bit n) (other (j + d) z (λ s. omega arith)) ∙ (p j q f).1 n hn,
+          )
+
+      here : i ≤ j → PairCrossed d w r j
+      here q =
+          let s : i ≡ j = omega arith in
+          let u : get_or r i 0 ≡ x =
+          get_or-set_other (set l i x) (i + d) i y 0 (λ s. omega (arith, c.positive)) ∙ get_or-set_same l i x 0 (omega arith) in
+          let v : get_or r (i + d) 0 ≡ y = get_or-set_same (set l i x) (i + d) y 0 (omega (arith, c.inside i h e, length-set l i x)) in
+          subst (PairCrossed d w r) s (λ n hn. ap (bit n) u ∙ low_word i x y e a n hn, λ n hn. ap (bit n) v ∙ high_word i x y (omega arith) e a n hn)
+
+  pub crossed_more : (i x y : ℕ) (l r : List ℕ) → r ≡ set (set l i x) (i + d) y → i < 8 → i / d % 2 ≡ 0 → Crosswise d (word w i) (word w (i + d)) x y
+      → CrossedTo d w i l → CrossedTo d w (i + 1) r
+  crossed_more i x y l r s h e a p =
+      rw s (length-set (set l i x) (i + d) y ∙ length-set l i x ∙ p.0, crossed_all_below i x y l p.0 h e a p.1)
+
+  -- or none
+  pub crossed_past : (i : ℕ) (l r : List ℕ) → r ≡ l → (i / d % 2 ≡ 0 → ⊥) → CrossedTo d w i l → CrossedTo d w (i + 1) r
+  crossed_past i l r s n p = rw s (
+    p.0,
+    λ j g f.
+        ⊎_elim (λ q. p.1 j q f)
+        (λ q. let s : i ≡ j = omega arith in absurd (n (ap (λ (k : ℕ). k / d % 2) s ∙ f)))
+        (lt_or_ge j i),
+  )
+
+  pub crossed_all : (i : ℕ) (l : List ℕ) → 8 ≤ i
+      → ((j : ℕ) → j < i → j / d % 2 ≡ 0 → PairCrossed d w l j)
+      → (j : ℕ) → j < 8 → CrossedWord d w j (get_or l j 0)
+  crossed_all i l h p j g =
+      below2 (λ (e : ℕ). j / d % 2 ≡ e → CrossedWord d w j (get_or l j 0))
+      (λ f. (p j (omega arith) f).0)
+      (λ f.
+      ⊎_elim
+      (λ q. absurd (differ (j / d % 2) f (c.lower j q)))
+      (λ q.
+      let s : j - d + d ≡ j = omega arith in
+      let z : (j - d) / d % 2 ≡ 0 = c.upper (j - d) (omega arith) ∙ ap (λ (k : ℕ). 1 - k / d % 2) s ∙ ap (λ (k : ℕ). 1 - k) f in
+      subst (λ (k : ℕ). CrossedWord d w k (get_or l k 0)) s (p (j - d) (omega arith) z).1)
+      (lt_or_ge j d))
+      (j / d % 2) (mod-lt (j / d) (lit< tt)) refl
 
 -- ---- the three digits together
 in8 : ℕ → ℕ → ℕ → Bool

@@ -1,139 +1,104 @@
--- Eight bytes in a word: read, and stored.
+-- Eight bytes in a word, eight words in 64 bytes, and what a loop over eight words has done.
 -- Assumes nothing.
-use mathlib.Core.Path.{◌≡◌, refl, sym, ap, ap₂, ◌∙◌}
-use mathlib.Core.List.{List}
-use Prim.Native.Nat.{ℕ, ◌+◌, ◌*◌, ◌/◌, ◌%◌, ◌^◌, ◌<◌, ◌≤◌}
-use native.Mathlib.Nat.{mod-lt, mod-eq_of_lt, div-one, add-zero, add_assoc}
+use mathlib.Core.Path.{◌≡◌, refl, sym, ap, ap₂, subst, ◌∙◌}
+use mathlib.Core.List.{List, [], ◌∷◌, ◌++◌}
+use mathlib.Core.Logic.{⊎_elim}
+use Prim.Native.Nat.{ℕ, zero, suc, ◌+◌, ◌*◌, ◌/◌, ◌%◌, ◌^◌, ◌-◌, ◌<◌, ◌≤◌}
+use native.Mathlib.Nat.{mod-lt, div-one, add-zero}
 use native.Mathlib.Omega.{arith}
+use borrow.Rule.Slice.PartMut.{put_mid}
 use lib.Dec.{lit<}
-use lib.Bits.{bit_or, bit_xor, or_shifted_r, xor_shr, xor_mod}
-use lib.ListN.{length, get_or, set}
-use Rattle.laws.specs.Loops.{front}
+use lib.Bits.{bit_xor, xor_shr, xor_mod}
+use lib.ListN.{length, get_or, set, take, drop, length-set, length-append, length-drop, get_or-append}
+use lib.Seq.{get_or-set_same, get_or-set_other, get_or-take, get_or-append-add, length-take-le}
+use Rattle.std.specs.Int.{w64, to_le_bytes, from_le_bytes}
+use Rattle.std.proofs.lemmas.Nat.{le_bytes_8}
 use Rattle.laws.specs.Xor.{xor}
-use Rattle.laws.proofs.ListLaws.{front_none, front_more}
-use Rattle.laws.proofs.OrderLaws.{below8}
+use Rattle.laws.proofs.OrderLaws.{lt_or_ge, below8}
 use Rattle.pi.specs.Permutation.{added}
-use Rattle.pi.proofs.Build.{state_at, state_is, state_same, state_all}
+use Rattle.pi.proofs.Build.{state_at, state_is, state_same}
 use Rattle.planes.specs.Planes.{word, bytes_of}
-use Rattle.planes.specs.Packing.{Holds, stored}
+use Rattle.planes.specs.Packing.{Holds}
 use Rattle.planes.specs.declared.Planes.{Planes}
 
--- ---- a word from eight bytes
-join : (k lo b : ℕ) → lo < 2 ^ k → b * 2 ^ k < 2 ^ 64 → bit_or lo (b * 2 ^ k % 2 ^ 64) ≡ b * 2 ^ k + lo
-join k lo b hl hb = ap (bit_or lo) (mod-eq_of_lt hb) ∙ or_shifted_r b k lo hl
+-- ---- a loop over eight words: the first n of l are as P says
+abbrev pub First : (ℕ → ℕ → Type 0) → ℕ → List ℕ → Type 0
+First P n l = (length l ≡ 8) × ((i : ℕ) → i < n → P i (get_or l i 0))
 
-module _ (a b c d e f g h : ℕ) (ha : a < 256) (hb : b < 256) (hc : c < 256) (hd : d < 256) (he : e < 256) (hf : f < 256) (hg : g < 256) (hh : h < 256) where
-  abbrev v₁ : ℕ
-  v₁ = b * 2 ^ 8 + a
+pub first_more : (P : ℕ → ℕ → Type 0) (n v : ℕ) (l : List ℕ) → n < 8 → First P n l → P n v → First P (n + 1) (set l n v)
+first_more P n v l h p q = (
+  length-set l n v ∙ p.0,
+  λ i k.
+      ⊎_elim
+      (λ s. subst (P i) (sym (get_or-set_other l n i v 0 (λ e. omega arith))) (p.1 i s))
+      (λ s.
+      let e : n ≡ i = omega arith in
+      subst (λ (j : ℕ). P j (get_or (set l n v) j 0)) e (subst (P n) (sym (get_or-set_same l n v 0 (omega (arith, p.0)))) q))
+      (lt_or_ge i n),
+)
 
-  abbrev v₂ : ℕ
-  v₂ = c * 2 ^ 16 + v₁
+pub first_all : (P : ℕ → ℕ → Type 0) (n : ℕ) (l : List ℕ) → 8 ≤ n → First P n l → (i : ℕ) → i < 8 → P i (get_or l i 0)
+first_all P n l h p i k = p.1 i (omega arith)
 
-  abbrev v₃ : ℕ
-  v₃ = d * 2 ^ 24 + v₂
+-- ---- a word's bytes
+pub byte_of_word : (w j : ℕ) → j < 8 → get_or (to_le_bytes w64 w) j 0 ≡ w / 2 ^ (8 * j) % 256
+byte_of_word w = below8 (λ (j : ℕ). get_or (to_le_bytes w64 w) j 0 ≡ w / 2 ^ (8 * j) % 256) (ap (λ (y : ℕ). y % 256) (sym (div-one w))) refl refl refl refl refl refl refl
 
-  abbrev v₄ : ℕ
-  v₄ = e * 2 ^ 32 + v₃
+eight_below : (b : ℕ → ℕ) → ((j : ℕ) → b j < 256) → (i : ℕ) → get_or (b 0 ∷ b 1 ∷ b 2 ∷ b 3 ∷ b 4 ∷ b 5 ∷ b 6 ∷ b 7 ∷ []) i 0 < 256
+eight_below b h zero = h 0
+eight_below b h (suc zero) = h 1
+eight_below b h (suc (suc zero)) = h 2
+eight_below b h (suc (suc (suc zero))) = h 3
+eight_below b h (suc (suc (suc (suc zero)))) = h 4
+eight_below b h (suc (suc (suc (suc (suc zero))))) = h 5
+eight_below b h (suc (suc (suc (suc (suc (suc zero)))))) = h 6
+eight_below b h (suc (suc (suc (suc (suc (suc (suc zero))))))) = h 7
+eight_below b h (suc (suc (suc (suc (suc (suc (suc (suc i)))))))) = lit< tt
 
-  abbrev v₅ : ℕ
-  v₅ = f * 2 ^ 40 + v₄
+pub row_is : (s : List ℕ) (at w : ℕ) → ((k : ℕ) → get_or s k 0 < 256)
+    → w ≡ from_le_bytes w64 (get_or s at 0 ∷ get_or s (at + 1) 0 ∷ get_or s (at + 2) 0 ∷ get_or s (at + 3) 0 ∷ get_or s (at + 4) 0 ∷ get_or s (at + 5) 0 ∷ get_or s (at + 6) 0 ∷ get_or s (at + 7) 0 ∷ [])
+    → Holds s at w
+row_is s at w h e j l =
+    let b : ℕ → ℕ = λ j. get_or s (at + j) 0 in
+    let bs : ℕ → List ℕ = λ x. x ∷ b 1 ∷ b 2 ∷ b 3 ∷ b 4 ∷ b 5 ∷ b 6 ∷ b 7 ∷ [] in
+    let f : w ≡ from_le_bytes w64 (bs (b 0)) = e ∙ ap (λ (n : ℕ). from_le_bytes w64 (bs (get_or s n 0))) (sym (add-zero at)) in
+    sym (byte_of_word w j l) ∙ ap (λ (l : List ℕ). get_or l j 0) (le_bytes_8 (bs (b 0)) w refl (eight_below b (λ j. h (at + j))) f)
+    ∙ below8 (λ (j : ℕ). get_or (bs (b 0)) j 0 ≡ get_or s (at + j) 0) refl refl refl refl refl refl refl refl j l
 
-  abbrev v₆ : ℕ
-  v₆ = g * 2 ^ 48 + v₅
-
-  abbrev v₇ : ℕ
-  v₇ = h * 2 ^ 56 + v₆
-
-  abbrev up : ℕ → ℕ → ℕ → ℕ
-  up k lo x = bit_or lo (x * 2 ^ k % 2 ^ 64)
-
-  all_joined : up 56 (up 48 (up 40 (up 32 (up 24 (up 16 (up 8 a b) c) d) e) f) g) h ≡ v₇
-  all_joined =
-      let e₁ : up 8 a b ≡ v₁ = join 8 a b ha (omega arith) in
-      let e₂ : up 16 (up 8 a b) c ≡ v₂ = ap (λ (w : ℕ). up 16 w c) e₁ ∙ join 16 v₁ c (omega arith) (omega arith) in
-      let e₃ : up 24 (up 16 (up 8 a b) c) d ≡ v₃ = ap (λ (w : ℕ). up 24 w d) e₂ ∙ join 24 v₂ d (omega arith) (omega arith) in
-      let e₄ : up 32 (up 24 (up 16 (up 8 a b) c) d) e ≡ v₄ = ap (λ (w : ℕ). up 32 w e) e₃ ∙ join 32 v₃ e (omega arith) (omega arith) in
-      let e₅ : up 40 (up 32 (up 24 (up 16 (up 8 a b) c) d) e) f ≡ v₅ = ap (λ (w : ℕ). up 40 w f) e₄ ∙ join 40 v₄ f (omega arith) (omega arith) in
-      let e₆ : up 48 (up 40 (up 32 (up 24 (up 16 (up 8 a b) c) d) e) f) g ≡ v₆ = ap (λ (w : ℕ). up 48 w g) e₅ ∙ join 48 v₅ g (omega arith) (omega arith) in
-      ap (λ (w : ℕ). up 56 w h) e₆ ∙ join 56 v₆ h (omega arith) (omega arith)
-
-  pub row_is : (s : List ℕ) (at : ℕ) → a ≡ get_or s at 0 → b ≡ get_or s (at + 1) 0 → c ≡ get_or s (at + 2) 0 → d ≡ get_or s (at + 3) 0
-      → e ≡ get_or s (at + 4) 0 → f ≡ get_or s (at + 5) 0 → g ≡ get_or s (at + 6) 0 → h ≡ get_or s (at + 7) 0
-      → Holds s at (up 56 (up 48 (up 40 (up 32 (up 24 (up 16 (up 8 a b) c) d) e) f) g) h)
-  row_is s at ea eb ec ed ee ef eg eh j hj =
-      ap (λ (w : ℕ). w / 2 ^ (8 * j) % 256) all_joined
-      ∙ below8 (λ (j : ℕ). v₇ / 2 ^ (8 * j) % 256 ≡ get_or s (at + j) 0)
-      ((let o : v₇ / 1 % 256 ≡ a = omega arith in o) ∙ ea ∙ ap (λ (n : ℕ). get_or s n 0) (sym (add-zero at)))
-      ((let o : v₇ / 2 ^ 8 % 256 ≡ b = omega arith in o) ∙ eb)
-      ((let o : v₇ / 2 ^ 16 % 256 ≡ c = omega arith in o) ∙ ec)
-      ((let o : v₇ / 2 ^ 24 % 256 ≡ d = omega arith in o) ∙ ed)
-      ((let o : v₇ / 2 ^ 32 % 256 ≡ e = omega arith in o) ∙ ee)
-      ((let o : v₇ / 2 ^ 40 % 256 ≡ f = omega arith in o) ∙ ef)
-      ((let o : v₇ / 2 ^ 48 % 256 ≡ g = omega arith in o) ∙ eg)
-      ((let o : v₇ / 2 ^ 56 % 256 ≡ h = omega arith in o) ∙ eh)
-      j hj
-
--- ---- eight words from 64 bytes
-pub words_is : (s : List ℕ) (r : Planes) → length s ≡ 64
-    → Holds s 0 r.p0 → Holds s 8 r.p1 → Holds s 16 r.p2 → Holds s 24 r.p3 → Holds s 32 r.p4 → Holds s 40 r.p5 → Holds s 48 r.p6 → Holds s 56 r.p7
-    → bytes_of r ≡ s
-unfolding bytes_of word
-words_is s r l h₀ h₁ h₂ h₃ h₄ h₅ h₆ h₇ =
+-- ---- eight words from 64 bytes, and 64 bytes from eight words
+pub words_is : (s : List ℕ) (r : Planes) → length s ≡ 64 → ((i : ℕ) → i < 8 → Holds s (8 * i) (word r i)) → bytes_of r ≡ s
+unfolding bytes_of
+words_is s r l e =
     state_is _ s l (λ k h.
-    let e : 8 * (k / 8) + k % 8 ≡ k = omega arith in
-    below8 (λ (i : ℕ). Holds s (8 * i) (word r i)) h₀ h₁ h₂ h₃ h₄ h₅ h₆ h₇ (k / 8) (omega arith) (k % 8) (mod-lt k (lit< tt))
-    ∙ ap (λ (n : ℕ). get_or s n 0) e)
+    let f : 8 * (k / 8) + k % 8 ≡ k = omega arith in
+    e (k / 8) (omega arith) (k % 8) (mod-lt k (lit< tt)) ∙ ap (λ (n : ℕ). get_or s n 0) f)
 
--- ---- and 64 bytes from eight words
-pub stored_is : (s : List ℕ) (at w : ℕ) {a b c d e f g h : ℕ}
-    → a ≡ w % 256 → b ≡ w / 2 ^ 8 % 256 → c ≡ w / 2 ^ 16 % 256 → d ≡ w / 2 ^ 24 % 256 → e ≡ w / 2 ^ 32 % 256 → f ≡ w / 2 ^ 40 % 256 → g ≡ w / 2 ^ 48 % 256 → h ≡ w / 2 ^ 56 % 256
-    → set (set (set (set (set (set (set (set s at a) (at + 1) b) (at + 2) c) (at + 3) d) (at + 4) e) (at + 5) f) (at + 6) g) (at + 7) h ≡ stored s at w
-unfolding stored
-stored_is s at w ea eb ec ed ee ef eg eh = cc
+-- the bytes of the first n words are there
+abbrev pub Put : Planes → ℕ → List ℕ → Type 0
+Put p n s = (length s ≡ 64) × ((k : ℕ) → k < 8 * n → word p (k / 8) / 2 ^ (8 * (k % 8)) % 256 ≡ get_or s k 0)
 
-module _ (f : ℕ → ℕ) (s : List ℕ) where
-  next : (i m v : ℕ) (t : List ℕ) → t ≡ front (i + m) f s → i + m < length s → v ≡ f (i + m) → set t (i + m) v ≡ front (i + (m + 1)) f s
-  next i m v t e h g = front_more (i + m) f s t v e h g ∙ ap (λ (n : ℕ). front n f s) (add_assoc i m 1)
+pub put_more : (p : Planes) (n : ℕ) (s b : List ℕ) → n < 8 → b ≡ to_le_bytes w64 (word p n) → Put p n s → Put p (n + 1) (put_mid (8 * n) (8 * n + 8 - 8 * n) s b)
+put_more p n s b h e q =
+    let a = 8 * n in
+    let m : length (take a s) ≡ a = length-take-le a s (omega (arith, q.0)) in
+    let f : length b ≡ 8 = ap length e in
+    let rest = drop (a + 8 - a) (drop a s) in (
+      length-append (take a s) (b ++ rest) ∙ ap₂ ◌+◌ m (length-append b rest ∙ ap₂ ◌+◌ f (length-drop (a + 8 - a) (drop a s) ∙ ap (λ (k : ℕ). k - (a + 8 - a)) (length-drop a s))) ∙ omega (arith, q.0),
+      λ k l.
+          ⊎_elim
+          (λ i. q.1 k i ∙ sym (get_or-append (take a s) (b ++ rest) 0 k (omega arith) ∙ get_or-take a s k 0 i))
+          (λ i.
+          let g : (k / 8 ≡ n) × (k % 8 ≡ k - a) = (omega arith, omega arith) in
+          let o : k ≡ length (take a s) + (k - a) = omega arith in
+          ap₂ (λ (i j : ℕ). word p i / 2 ^ (8 * j) % 256) g.0 g.1
+          ∙ sym (byte_of_word (word p n) (k - a) (omega arith)) ∙ ap (λ (t : List ℕ). get_or t (k - a) 0) (sym e)
+          ∙ sym (ap (λ (j : ℕ). get_or (take a s ++ (b ++ rest)) j 0) o ∙ get_or-append-add (take a s) (b ++ rest) (k - a) 0 ∙ get_or-append b rest 0 (k - a) (omega arith)))
+          (lt_or_ge k a),
+    )
 
-  stored_more : (i w : ℕ) (t u : List ℕ) → t ≡ front i f s → i + 8 ≤ length s → ((j : ℕ) → j < 8 → w / 2 ^ (8 * j) % 256 ≡ f (i + j)) → u ≡ stored t i w → u ≡ front (i + 8) f s
-  unfolding stored
-  stored_more i w t u e h g eu =
-      eu
-      ∙ next i 7 _ _ (next i 6 _ _ (next i 5 _ _ (next i 4 _ _ (next i 3 _ _ (next i 2 _ _ (next i 1 _ _
-      (front_more i f s t _ e (omega arith) (ap (λ (y : ℕ). y % 256) (sym (div-one w)) ∙ g 0 (lit< tt) ∙ ap f (add-zero i)))
-      (omega arith) (g 1 (lit< tt))) (omega arith) (g 2 (lit< tt))) (omega arith) (g 3 (lit< tt))) (omega arith) (g 4 (lit< tt))) (omega arith) (g 5 (lit< tt))) (omega arith) (g 6 (lit< tt))) (omega arith) (g 7 (lit< tt))
-
--- byte j of word i is byte 8i + j
-in_row : (p : Planes) (i j : ℕ) → j < 8 → word p i / 2 ^ (8 * j) % 256 ≡ word p ((8 * i + j) / 8) / 2 ^ (8 * ((8 * i + j) % 8)) % 256
-in_row p i j h =
-    let e₁ : (8 * i + j) / 8 ≡ i = omega arith in
-    let e₂ : (8 * i + j) % 8 ≡ j = omega arith in
-    sym (ap₂ (λ (m n : ℕ). word p m / 2 ^ (8 * n) % 256) e₁ e₂)
-
-pub put_words_is : (p : Planes) (s s₁ s₂ s₃ s₄ s₅ s₆ s₇ s₈ : List ℕ) → length s ≡ 64
-    → s₁ ≡ stored s 0 p.p0 → s₂ ≡ stored s₁ 8 p.p1 → s₃ ≡ stored s₂ 16 p.p2 → s₄ ≡ stored s₃ 24 p.p3
-    → s₅ ≡ stored s₄ 32 p.p4 → s₆ ≡ stored s₅ 40 p.p5 → s₇ ≡ stored s₆ 48 p.p6 → s₈ ≡ stored s₇ 56 p.p7
-    → s₈ ≡ bytes_of p
-unfolding bytes_of word
-put_words_is p s s₁ s₂ s₃ s₄ s₅ s₆ s₇ s₈ l e₁ e₂ e₃ e₄ e₅ e₆ e₇ e₈ =
-    let f : ℕ → ℕ = λ k. word p (k / 8) / 2 ^ (8 * (k % 8)) % 256 in
-    state_all 64 f s s₈
-    (stored_more f s 56 p.p7 s₇ s₈
-    (stored_more f s 48 p.p6 s₆ s₇
-    (stored_more f s 40 p.p5 s₅ s₆
-    (stored_more f s 32 p.p4 s₄ s₅
-    (stored_more f s 24 p.p3 s₃ s₄
-    (stored_more f s 16 p.p2 s₂ s₃
-    (stored_more f s 8 p.p1 s₁ s₂
-    (stored_more f s 0 p.p0 s s₁ (front_none f s) (omega arith) (in_row p 0) e₁)
-    (omega arith) (in_row p 1) e₂)
-    (omega arith) (in_row p 2) e₃)
-    (omega arith) (in_row p 3) e₄)
-    (omega arith) (in_row p 4) e₅)
-    (omega arith) (in_row p 5) e₆)
-    (omega arith) (in_row p 6) e₇)
-    (omega arith) (in_row p 7) e₈)
-    l refl
+pub put_all : (p : Planes) (n : ℕ) (s : List ℕ) → 8 ≤ n → Put p n s → s ≡ bytes_of p
+unfolding bytes_of
+put_all p n s h q = sym (state_is _ s q.0 (λ k l. q.1 k (omega arith)))
 
 -- ---- word by word
 pub sum_is : (p q r : Planes) → ((i : ℕ) → i < 8 → word r i ≡ bit_xor (word p i) (word q i)) → bytes_of r ≡ added (bytes_of q) (bytes_of p)

@@ -1,6 +1,7 @@
--- `planes::words`, `put_words`, `transposed` and `sum` promise one result: two that meet the promise at the same arguments are equal, or leave the
--- same bytes. Planes are eight numbers, and a promise of their bytes says nothing of what is past 2^64: that each is below it is what their type
--- says, and a caller is told it of every call's result (`Ok`).
+-- `planes::words`, `put_words`, `transposed` and `sum` promise one result: two that meet the promise at the same
+-- arguments are equal, or leave the same bytes. Planes are eight numbers, and a promise of their bytes says nothing of
+-- what is past 2^64: that each is below it is what their type says, and a caller is told it of every call's result
+-- (`Ok`).
 -- Assumes nothing.
 use mathlib.Core.Path.{◌≡◌, sym, ◌∙◌}
 use contract.Lifetimes.{Lfts}

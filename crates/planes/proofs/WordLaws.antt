@@ -1,16 +1,19 @@
 -- Eight words, each below 2^64, are known by their 64 bytes, and so by the state whose planes they are.
 -- Assumes nothing.
 use mathlib.Core.Path.{◌≡◌, sym, ap, ap₂, ◌∙◌}
-use mathlib.Core.List.{List}
+use mathlib.Core.List.{List, [], ◌∷◌}
 use Prim.Native.Nat.{ℕ, zero, suc, ◌+◌, ◌*◌, ◌/◌, ◌%◌, ◌^◌, ◌<◌}
 use native.Mathlib.Nat.{mod-one, mod-eq_of_lt}
 use native.Mathlib.Omega.{arith}
 use lib.Dec.{lit<}
-use lib.ListN.{get_or}
+use lib.ListN.{length, get_or}
 use lib.Pow.{mod-pow-add}
+use lib.Seq.{ext_get_or}
 use mir.Val.{Val}
+use denote.Array.{each}
+use denote.Builtin.{u64}
 use denote.Laws.{Is}
-use Rattle.laws.proofs.OrderLaws.{below8}
+use denote.Shadow.{shadow}
 use Rattle.planes.specs.Planes.{flipped, word, bytes_of}
 use Rattle.planes.specs.declared.Planes.{Planes}
 use Rattle.planes.specs.contracts.Planes.{the_row}
@@ -32,38 +35,33 @@ same_word x y hx hy e = sym (mod-eq_of_lt hx) ∙ same_low 8 x y e ∙ mod-eq_of
 
 -- ---- eight words
 pub record Words (p : Planes) : Type 0 where
-  pub below : (i : ℕ) → i < 8 → word p i < 2 ^ 64
+  pub long : length p.words ≡ 8
+  pub below : (i : ℕ) → word p i < 2 ^ 64
+
+each_below : (l : List ℕ) (us : List Val) → shadow (each ℕ u64.own_val l us) → (i : ℕ) → get_or l i 0 < 2 ^ 64
+each_below [] us s i = lit< tt
+each_below (x ∷ l) [] s i = absurd s
+each_below (x ∷ l) (u ∷ us) s zero = s.0.1
+each_below (x ∷ l) (u ∷ us) s (suc i) = each_below l us s.1 i
 
 -- what the type says of a value
 pub fit : (p : Planes) (vs : List Val) → Is the_row p vs → Words p
 unfolding word
 fit p vs u =
-    let t = u.1.1 in
-    record {
-      below =
-          below8 (λ (i : ℕ). word p i < 2 ^ 64)
-          t.0.1 t.1.0.1 t.1.1.0.1 t.1.1.1.0.1 t.1.1.1.1.0.1 t.1.1.1.1.1.0.1 t.1.1.1.1.1.1.0.1 t.1.1.1.1.1.1.1.0.1;
-    }
+    let t = u.1.1.0.1 in
+    record { long = t.0.1; below = λ i. each_below p.words _ t.1 _ }
 
 module _ (p q : Planes) (u : Words p) (v : Words q) where
   each_same : bytes_of p ≡ bytes_of q → (i : ℕ) → i < 8 → word p i ≡ word q i
   each_same e i h =
-      same_word (word p i) (word q i) (u.below i h) (v.below i h)
+      same_word (word p i) (word q i) (u.below i) (v.below i)
       (λ j l. sym (bytes_of_at p i j h l) ∙ ap (λ t. get_or t (8 * i + j) 0) e ∙ bytes_of_at q i j h l)
 
   pub same_words : bytes_of p ≡ bytes_of q → p ≡ q
   unfolding word
-  same_words e = λ k.
-      record {
-        p0 = each_same e 0 (lit< tt) k;
-        p1 = each_same e 1 (lit< tt) k;
-        p2 = each_same e 2 (lit< tt) k;
-        p3 = each_same e 3 (lit< tt) k;
-        p4 = each_same e 4 (lit< tt) k;
-        p5 = each_same e 5 (lit< tt) k;
-        p6 = each_same e 6 (lit< tt) k;
-        p7 = each_same e 7 (lit< tt) k;
-      }
+  same_words e =
+      let s : p.words ≡ q.words = ext_get_or 0 p.words q.words (u.long ∙ sym v.long) (λ i h. each_same e i (omega (arith, u.long))) in
+      λ k. record { words = s k }
 
   pub same_flipped : flipped (bytes_of p) ≡ flipped (bytes_of q) → p ≡ q
   same_flipped e = same_words (sym (flip_flip (bytes_of p) (bytes_of_full p)) ∙ ap flipped e ∙ flip_flip (bytes_of q) (bytes_of_full q))

@@ -1,6 +1,6 @@
--- A state of 64 bytes, byte 8i + j of which is row i, column j, as planes of bits: byte 8b + j of them has, at its bit i, bit b of the state's
--- byte at row i, column j.
-use Rattle.std.specs.Prelude.{List, ℕ, zero, suc, ◌+◌, ◌*◌, ◌/◌, ◌%◌, ◌^◌, get_or}
+-- A state of 64 bytes, byte 8i + j of which is row i, column j, as planes of bits: byte 8b + j of them has, at its bit
+-- i, bit b of the state's byte at row i, column j.
+use Rattle.std.specs.Prelude.{List, ℕ, ◌+◌, ◌*◌, ◌/◌, ◌%◌, ◌^◌, get_or}
 use Rattle.laws.specs.Xor.{xor}
 use Rattle.pi.specs.Permutation.{state_by}
 use Rattle.planes.specs.declared.Planes.{Planes}
@@ -22,14 +22,7 @@ plus c s = state_by (λ k. xor (get_or s k 0) c)
 
 -- ---- the planes as eight words
 unfoldable pub word : Planes → ℕ → ℕ
-word p zero = p.p0
-word p (suc zero) = p.p1
-word p (suc (suc zero)) = p.p2
-word p (suc (suc (suc zero))) = p.p3
-word p (suc (suc (suc (suc zero)))) = p.p4
-word p (suc (suc (suc (suc (suc zero))))) = p.p5
-word p (suc (suc (suc (suc (suc (suc zero)))))) = p.p6
-word p (suc (suc (suc (suc (suc (suc (suc i))))))) = p.p7
+word p i = get_or p.words i 0
 
 -- their 64 bytes
 unfoldable pub bytes_of : Planes → List ℕ

@@ -7,7 +7,9 @@ use native.Mathlib.Nat.{zero-add, suc-add}
 use native.Mathlib.Omega.{arith}
 use lib.ListN.{length, take, drop, replicate, length-append, length-take, length-drop, length-replicate}
 use lib.Seq.{take_at, take-take, drop-drop, length-take-le}
+use Rattle.std.specs.Prelude.{Result, Ok}
 use Rattle.laws.specs.Lists.{splice}
+use Rattle.numbers.specs.declared.Refusal.{Refusal}
 use Rattle.laws.proofs.ListLaws.{drop_behind}
 use Rattle.laws.proofs.SpliceLaws.{splice_mid}
 use Rattle.block.specs.declared.Seen.{Seen}
@@ -75,7 +77,7 @@ cleared n b₀ b r k h m e f =
     rw (e, i, f, j) (zeros_behind r (drop n b₀) (k - length r) (n - k) (n - length r) (omega arith))
 
 -- ---- a block opened into its place
-module _ (key : List ℕ) (id recording : ℕ) (image : List ℕ) (q : ℕ) {part out out' : List ℕ} {r : Seen} (hk : length key ≡ 24)
+module _ (key : List ℕ) (id recording : ℕ) (image : List ℕ) (q : ℕ) {part out out' : List ℕ} {r : Result Seen Refusal} (hk : length key ≡ 24)
     (hi : q * 512 + 512 ≤ length image) (hp : part ≡ take (length image - 512 * q) (drop (512 * q) image)) (ho : length out ≡ 488)
     (c : OpenedAt key id recording q part out r out') where
   part_length : 512 ≤ length part
@@ -85,8 +87,8 @@ module _ (key : List ℕ) (id recording : ℕ) (image : List ℕ) (q : ℕ) {par
   unfolding view block_at
   shown = ap (λ (x : List ℕ). open_block key id recording q x) (ap (take 512) hp ∙ take-take 512 (length image - 512 * q) (drop (512 * q) image) (omega arith))
 
-  pub opened_says : r ≡ seen_of (view key id recording image q)
-  opened_says = c.says ∙ rw (may_open key part out hk part_length ho) (ap seen_of shown)
+  pub opened_says : r ≡ Ok (seen_of (view key id recording image q))
+  opened_says = c.says ∙ rw (may_open key part out hk part_length ho) (ap (λ (o : Content). Ok (seen_of o)) shown)
 
   opened_bytes : out' ≡ payload (bytes_of (view key id recording image q))
   opened_bytes = c.bytes ∙ rw (may_open key part out hk part_length ho) (ap (λ (o : Content). payload (bytes_of o)) shown)

@@ -1,5 +1,6 @@
--- What a read passes over: behind its first block, a read that is no End passes quiet blocks alone, at which nothing begins. So a walk meets
--- every record's first block, mark and end of data at its own place. All of it holds of every view.
+-- What a read passes over: behind its first block, a read that is no End passes quiet blocks alone, at which nothing
+-- begins. So a walk meets every record's first block, mark and end of data at its own place. All of it holds of every
+-- view.
 -- Assumes nothing.
 use mathlib.Core.Path.{◌≡◌, refl}
 use mathlib.Core.Bool.{true, false, true≢false}

@@ -1,18 +1,21 @@
 -- A read and one turn of it, by what a block shows, as the code sees it.
 -- Assumes nothing.
 use mathlib.Core.Path.{◌≡◌, refl, sym, ap, ap₂, ◌∙◌, subst}
-use mathlib.Core.Bool.{Bool, true, false, true≢false}
+use mathlib.Core.Bool.{Bool, true, false}
+use mathlib.Core.Logic.{◌⊎◌, ⊎_elim}
 use mathlib.Core.List.{List, [], ◌++◌, append_assoc, append-nil}
-use Prim.Native.Nat.{ℕ, suc, ◌+◌, ◌-◌, ◌*◌, ◌/◌, ◌≤◌, ◌<◌, min}
+use Prim.Native.Nat.{ℕ, suc, ◌+◌, ◌-◌, ◌*◌, ◌≤◌, ◌<◌, min}
 use native.Mathlib.Numerals.{add-one}
 use native.Mathlib.Omega.{arith}
 use lib.ListN.{length, take, drop, replicate, length-append, length-replicate}
 use lib.Seq.{length-take-le}
+use Rattle.std.specs.Prelude.{Result, Ok}
 use Rattle.laws.specs.Lists.{splice}
+use Rattle.numbers.specs.declared.Refusal.{Refusal}
 use Rattle.laws.proofs.SpliceLaws.{take_splice}
 use Rattle.block.specs.declared.Seen.{Seen}
 use Rattle.block.specs.declared.Seen.TheVariants as seen
-use Rattle.block.specs.Content.{Content, shut, more, head, first, mark, eod, bytes_of}
+use Rattle.block.specs.Content.{Content, shut, more, head, Head, first, mark, eod, bytes_of}
 use Rattle.block.specs.Format.{payload}
 use Rattle.block.specs.Image.{View, capacity_of}
 use Rattle.block.specs.Calls.{seen_of}
@@ -47,50 +50,49 @@ more_seen (head (first l b)) e = (cc, cc)
 more_seen (head mark) e = (cc, cc)
 more_seen (head eod) e = (cc, cc)
 
-mark_seen : (c : Content) → seen_of c ≡ seen.Mark → c ≡ head mark
+pub mark_seen : (c : Content) → seen_of c ≡ seen.Mark → c ≡ head mark
 mark_seen shut e = cc
 mark_seen (more l b) e = cc
 mark_seen (head (first l b)) e = cc
 mark_seen (head mark) e = refl
 mark_seen (head eod) e = cc
 
-end_seen : (c : Content) → seen_of c ≡ seen.End → c ≡ head eod
+pub end_seen : (c : Content) → seen_of c ≡ seen.End → c ≡ head eod
 end_seen shut e = cc
 end_seen (more l b) e = cc
 end_seen (head (first l b)) e = cc
 end_seen (head mark) e = cc
 end_seen (head eod) e = refl
 
--- of a place on the cartridge it never sees a refusal
-never_refused : (c : Content) {n : ℕ} → seen_of c ≡ seen.Refused n → ⊥
-never_refused shut e = true≢false cc
-never_refused (more l b) e = true≢false cc
-never_refused (head (first l b)) e = true≢false cc
-never_refused (head mark) e = true≢false cc
-never_refused (head eod) e = true≢false cc
-
 -- ---- what an answer leaves in the buffer
-got_is : (r : Got) {x : Outcome} {n : ℕ} → r.outcome ≡ x → r.next ≡ n → r ≡ record { outcome = x; next = n }
-got_is r e f = ap₂ (λ (y : Outcome) (k : ℕ). record { outcome = y; next = k }) e f
+got_is : (r : Got) {x : Outcome} {n : ℕ} → r.outcome ≡ Ok x → r.next ≡ n → r ≡ record { outcome = Ok x; next = n }
+got_is r e f = ap₂ (λ (y : Result Outcome Refusal) (k : ℕ). record { outcome = y; next = k }) e f
 
 pub filled_least : (t : Told) → 31232 ≤ length (filled t)
 unfolding filled
 filled_least t = omega (arith, length-append (record_of t) (replicate (31232 - length (record_of t)) 0), length-replicate {A = ℕ} (31232 - length (record_of t)) 0)
 
+-- the answer x, and b kept as far as k
+abbrev pub Keeps : List ℕ → ℕ → Outcome → ℕ → Got → List ℕ → Type 0
+Keeps b k x n r b' = record { says : (r.outcome ≡ Ok x) × (r.next ≡ n); leaves : b' ≡ splice b k (replicate (31232 - k) 0) }
+
+-- the answer a, and what it fills the buffer with
+abbrev pub Answered : List ℕ → Answer → Got → List ℕ → Type 0
+Answered b₀ a r b' = record { says : r ≡ got_of a; leaves : b' ≡ splice b₀ 0 (filled a.told) }
+
 module _ {a : Answer} {r : Got} (b₀ b : List ℕ) {b' : List ℕ} (f : drop 31232 b ≡ drop 31232 b₀) where
   -- none of the buffer is kept
-  pub nothing_kept : (t : Told) (n : ℕ) → a ≡ answer t n → record_of t ≡ [] → r.outcome ≡ outcome_of t → r.next ≡ n → b' ≡ splice b 0 (replicate (31232 - 0) 0)
-      → (r ≡ got_of a) × (b' ≡ splice b₀ 0 (filled a.told))
+  pub nothing_kept : (t : Told) (n : ℕ) → a ≡ answer t n → record_of t ≡ [] → Keeps b 0 (outcome_of t) n r b' → Answered b₀ a r b'
   unfolding filled
-  nothing_kept t n e z x y l =
-      let k : take 0 b ≡ [] ++ replicate (0 - length {A = ℕ} []) 0 = refl in
-      (got_is r x y ∙ ap got_of (sym e), rw (e, z) (l ∙ cleared 31232 b₀ b [] 0 (omega arith) (omega arith) k f))
+  nothing_kept t n e z k =
+      let i : take 0 b ≡ [] ++ replicate (0 - length {A = ℕ} []) 0 = refl in
+      record { says = got_is r k.says.0 k.says.1 ∙ ap got_of (sym e); leaves = rw (e, z) (k.leaves ∙ cleared 31232 b₀ b [] 0 (omega arith) (omega arith) i f) }
 
-  -- the first k bytes are kept: a record d and zeros
-  pub record_kept : (d : List ℕ) (n k : ℕ) → a ≡ answer (Record d) n → r.outcome ≡ o.Record (length d) → r.next ≡ n → length d ≤ k → k ≤ 31232
-      → take k b ≡ d ++ replicate (k - length d) 0 → b' ≡ splice b k (replicate (31232 - k) 0) → (r ≡ got_of a) × (b' ≡ splice b₀ 0 (filled a.told))
+  -- the first j bytes are kept: a record d and zeros
+  pub record_kept : (d : List ℕ) (n j : ℕ) → a ≡ answer (Record d) n → length d ≤ j → j ≤ 31232 → take j b ≡ d ++ replicate (j - length d) 0
+      → Keeps b j (o.Record (length d)) n r b' → Answered b₀ a r b'
   unfolding filled
-  record_kept d n k e x y h m g l = (got_is r x y ∙ ap got_of (sym e), rw e (l ∙ cleared 31232 b₀ b d k h m g f))
+  record_kept d n j e h m g k = record { says = got_is r k.says.0 k.says.1 ∙ ap got_of (sym e); leaves = rw e (k.leaves ∙ cleared 31232 b₀ b d j h m g f) }
 
 -- ---- what a block's bytes are
 payload_whole : (b : List ℕ) → length b ≡ 488 → payload b ≡ b
@@ -139,21 +141,19 @@ module _ {v : View} {end q at : ℕ} {a : Answer} {b₀ b b₁ : List ℕ} {s : 
   turns : (c : Content) → v q ≡ c → a ≡ inside c q (take at b) (λ y. gather (end - (q + 1)) v (q + 1) y)
   turns c e = sym t.left ∙ gather_on v end q (take at b) c t.on e
 
-  module _ {r : Got} {b' : List ℕ} (l : b' ≡ splice b₁ 0 (replicate (31232 - 0) 0)) (y : r.outcome ≡ o.Cut q) where
-    pub turn_shut : s ≡ seen.Shut → r.next ≡ q + 1 → (r ≡ got_of a) × (b' ≡ splice b₀ 0 (filled a.told))
-    turn_shut e z = nothing_kept b₀ b₁ turn_back (Cut q) (q + 1) (turns shut (shut_seen (v q) (sym t.says ∙ e)) ∙ ap (answer (Cut q)) (sym (add-one q))) refl y z l
+  heads : (d : Head) → v q ≡ head d → a ≡ answer (Cut q) q
+  heads d e = turns (head d) e
 
-    pub turn_first : {f : Bool} {n : ℕ} → s ≡ seen.First f n → r.next ≡ q → (r ≡ got_of a) × (b' ≡ splice b₀ 0 (filled a.told))
-    turn_first {f} e z = nothing_kept b₀ b₁ turn_back (Cut q) q (turns (head (first f x)) (first_seen (v q) (sym t.says ∙ e)).0) refl y z l
+  module _ {r : Got} {b' : List ℕ} where
+    pub turn_shut : s ≡ seen.Shut → Keeps b₁ 0 (o.Cut q) (q + 1) r b' → Answered b₀ a r b'
+    turn_shut e = nothing_kept b₀ b₁ turn_back (Cut q) (q + 1) (turns shut (shut_seen (v q) (sym t.says ∙ e)) ∙ ap (answer (Cut q)) (sym (add-one q))) refl
 
-    pub turn_mark : s ≡ seen.Mark → r.next ≡ q → (r ≡ got_of a) × (b' ≡ splice b₀ 0 (filled a.told))
-    turn_mark e z = nothing_kept b₀ b₁ turn_back (Cut q) q (turns (head mark) (mark_seen (v q) (sym t.says ∙ e))) refl y z l
-
-    pub turn_end : s ≡ seen.End → r.next ≡ q → (r ≡ got_of a) × (b' ≡ splice b₀ 0 (filled a.told))
-    turn_end e z = nothing_kept b₀ b₁ turn_back (Cut q) q (turns (head eod) (end_seen (v q) (sym t.says ∙ e))) refl y z l
-
-  pub turn_refused : {n : ℕ} → s ≡ seen.Refused n → ⊥
-  turn_refused e = never_refused (v q) (sym t.says ∙ e)
+    -- a block at which something else begins
+    pub turn_head : ((f : Bool) × (n : ℕ) × (s ≡ seen.First f n)) ⊎ ((s ≡ seen.Mark) ⊎ (s ≡ seen.End)) → Keeps b₁ 0 (o.Cut q) q r b' → Answered b₀ a r b'
+    turn_head h =
+        nothing_kept b₀ b₁ turn_back (Cut q) q
+        (⊎_elim (λ e. heads (first e.0 x) (first_seen (v q) (sym t.says ∙ e.2)).0)
+        (⊎_elim (λ e. heads mark (mark_seen (v q) (sym t.says ∙ e))) (λ e. heads eod (end_seen (v q) (sym t.says ∙ e)))) h) refl
 
   -- the record's last block
   sized_as : {c d : Content} → c ≡ d → Sized c → Sized d
@@ -164,9 +164,8 @@ module _ {v : View} {end q at : ℕ} {a : Answer} {b₀ b b₁ : List ℕ} {s : 
       let m = more_seen (v q) (sym t.says ∙ e) in
       omega (arith, m.1, sized_most l x (sized_as m.0 t.sized))
 
-  pub turn_last : {n : ℕ} {r : Got} {b' : List ℕ} → s ≡ seen.More true n → r.outcome ≡ o.Record (at + n) → r.next ≡ q + 1
-      → b' ≡ splice b₁ (at + 488) (replicate (31232 - (at + 488)) 0) → (r ≡ got_of a) × (b' ≡ splice b₀ 0 (filled a.told))
-  turn_last {n} e y z l =
+  pub turn_last : {n : ℕ} {r : Got} {b' : List ℕ} → s ≡ seen.More true n → Keeps b₁ (at + 488) (o.Record (at + n)) (q + 1) r b' → Answered b₀ a r b'
+  turn_last {n} e kept =
       let h = t.room in
       let g = t.long in
       let m = more_seen (v q) (sym t.says ∙ e) in
@@ -174,8 +173,9 @@ module _ {v : View} {end q at : ℕ} {a : Answer} {b₀ b b₁ : List ℕ} {s : 
       let w : length (take at b) ≡ at = length-take-le at b (omega arith) in
       let u : length (take at b ++ x) ≡ at + n = length-append (take at b) x ∙ omega (arith, m.1) in
       let i : 488 - length x ≡ at + 488 - length (take at b ++ x) = omega (arith, m.1) in
-      record_kept b₀ b₁ turn_back (take at b ++ x) (q + 1) (at + 488) (turns (more true x) m.0 ∙ ap (answer (Record (take at b ++ x))) (sym (add-one q))) (y ∙ ap o.Record (sym u)) z (omega arith) h
-      (turn_front ∙ ap (λ (j : List ℕ). take at b ++ j) (payload_is x k ∙ ap (λ (j : ℕ). x ++ replicate j 0) i) ∙ sym (append_assoc (take at b) x (replicate (at + 488 - length (take at b ++ x)) 0))) l
+      record_kept b₀ b₁ turn_back (take at b ++ x) (q + 1) (at + 488) (turns (more true x) m.0 ∙ ap (answer (Record (take at b ++ x))) (sym (add-one q))) (omega arith) h
+      (turn_front ∙ ap (λ (j : List ℕ). take at b ++ j) (payload_is x k ∙ ap (λ (j : ℕ). x ++ replicate j 0) i) ∙ sym (append_assoc (take at b) x (replicate (at + 488 - length (take at b ++ x)) 0)))
+      (rw u kept)
 
   -- a block after which the record goes on
   pub turn_more : {n : ℕ} → s ≡ seen.More false n → gather (end - (q + 1)) v (q + 1) (take (at + 488) b₁) ≡ a
@@ -205,50 +205,44 @@ module _ {v : View} (c : ℕ) {p : ℕ} {b₀ b₁ : List ℕ} {s : Seen} (t : B
   unfolding read_at
   begins_as d e = ap (λ (x : Content). between x v c p) e
 
-  module _ {r : Got} {b' : List ℕ} (l : b' ≡ splice b₁ 0 (replicate (31232 - 0) 0)) where
-    pub begun_shut : s ≡ seen.Shut → r.outcome ≡ o.Bad → r.next ≡ p + 1 → (r ≡ got_of (read_at v c p)) × (b' ≡ splice b₀ 0 (filled (read_at v c p).told))
-    begun_shut e y z = nothing_kept b₀ b₁ begun_back Bad (p + 1) (begins_as shut (shut_seen (v p) (sym t.says ∙ e)) ∙ ap (answer Bad) (sym (add-one p))) refl y z l
+  module _ {r : Got} {b' : List ℕ} where
+    pub begun_shut : s ≡ seen.Shut → Keeps b₁ 0 o.Bad (p + 1) r b' → Answered b₀ (read_at v c p) r b'
+    begun_shut e = nothing_kept b₀ b₁ begun_back Bad (p + 1) (begins_as shut (shut_seen (v p) (sym t.says ∙ e)) ∙ ap (answer Bad) (sym (add-one p))) refl
 
-    pub begun_more : {m : Bool} {n : ℕ} → s ≡ seen.More m n → r.outcome ≡ o.Stray → r.next ≡ p + 1 → (r ≡ got_of (read_at v c p)) × (b' ≡ splice b₀ 0 (filled (read_at v c p).told))
-    begun_more {m} e y z = nothing_kept b₀ b₁ begun_back Stray (p + 1) (begins_as (more m f) (more_seen (v p) (sym t.says ∙ e)).0 ∙ ap (answer Stray) (sym (add-one p))) refl y z l
+    pub begun_more : {m : Bool} {n : ℕ} → s ≡ seen.More m n → Keeps b₁ 0 o.Stray (p + 1) r b' → Answered b₀ (read_at v c p) r b'
+    begun_more {m} e = nothing_kept b₀ b₁ begun_back Stray (p + 1) (begins_as (more m f) (more_seen (v p) (sym t.says ∙ e)).0 ∙ ap (answer Stray) (sym (add-one p))) refl
 
-    pub begun_mark : s ≡ seen.Mark → r.outcome ≡ o.Mark → r.next ≡ p + 1 → (r ≡ got_of (read_at v c p)) × (b' ≡ splice b₀ 0 (filled (read_at v c p).told))
-    begun_mark e y z = nothing_kept b₀ b₁ begun_back Mark (p + 1) (begins_as (head mark) (mark_seen (v p) (sym t.says ∙ e)) ∙ ap (answer Mark) (sym (add-one p))) refl y z l
+    pub begun_mark : s ≡ seen.Mark → Keeps b₁ 0 o.Mark (p + 1) r b' → Answered b₀ (read_at v c p) r b'
+    begun_mark e = nothing_kept b₀ b₁ begun_back Mark (p + 1) (begins_as (head mark) (mark_seen (v p) (sym t.says ∙ e)) ∙ ap (answer Mark) (sym (add-one p))) refl
 
-    pub begun_end : s ≡ seen.End → r.outcome ≡ o.End → r.next ≡ p → (r ≡ got_of (read_at v c p)) × (b' ≡ splice b₀ 0 (filled (read_at v c p).told))
-    begun_end e y z = nothing_kept b₀ b₁ begun_back End p (begins_as (head eod) (end_seen (v p) (sym t.says ∙ e))) refl y z l
+    pub begun_end : s ≡ seen.End → Keeps b₁ 0 o.End p r b' → Answered b₀ (read_at v c p) r b'
+    begun_end e = nothing_kept b₀ b₁ begun_back End p (begins_as (head eod) (end_seen (v p) (sym t.says ∙ e))) refl
 
-  pub begun_refused : {n : ℕ} → s ≡ seen.Refused n → ⊥
-  begun_refused e = never_refused (v p) (sym t.says ∙ e)
-
-  -- a record of one block
-  pub begun_last : {n : ℕ} {r : Got} {b' : List ℕ} → s ≡ seen.First true n → r.outcome ≡ o.Record n → r.next ≡ p + 1 → b' ≡ splice b₁ 488 (replicate (31232 - 488) 0)
-      → (r ≡ got_of (read_at v c p)) × (b' ≡ splice b₀ 0 (filled (read_at v c p).told))
-  begun_last e y z l =
-      let m = first_seen (v p) (sym t.says ∙ e) in
-      let k : length f ≤ 488 = subst Sized m.0 t.sized in
-      record_kept b₀ b₁ begun_back f (p + 1) 488 (begins_as (head (first true f)) m.0 ∙ ap (answer (Record f)) (sym (add-one p))) (y ∙ ap o.Record (sym m.1)) z k (omega arith)
-      (begun_front ∙ payload_is f k) l
+    -- a record of one block
+    pub begun_last : {n : ℕ} → s ≡ seen.First true n → Keeps b₁ 488 (o.Record n) (p + 1) r b' → Answered b₀ (read_at v c p) r b'
+    begun_last e kept =
+        let m = first_seen (v p) (sym t.says ∙ e) in
+        let k : length f ≤ 488 = subst Sized m.0 t.sized in
+        record_kept b₀ b₁ begun_back f (p + 1) 488 (begins_as (head (first true f)) m.0 ∙ ap (answer (Record f)) (sym (add-one p))) k (omega arith) (begun_front ∙ payload_is f k) (rw m.1 kept)
 
   -- a longer one
-  pub begun_first : {n : ℕ} {r : Got} {b' : List ℕ} → s ≡ seen.First false n → r ≡ got_of (gather (min (c - (p + 1)) 63) v (p + 1) (take 488 b₁))
-      → b' ≡ splice b₁ 0 (filled (gather (min (c - (p + 1)) 63) v (p + 1) (take 488 b₁)).told) → (r ≡ got_of (read_at v c p)) × (b' ≡ splice b₀ 0 (filled (read_at v c p).told))
-  begun_first {r = r} {b' = b'} e y l =
+  pub begun_first : {n : ℕ} {r : Got} {b' : List ℕ} → s ≡ seen.First false n → Answered b₁ (gather (min (c - (p + 1)) 63) v (p + 1) (take 488 b₁)) r b'
+      → Answered b₀ (read_at v c p) r b'
+  begun_first e a =
       let m = first_seen (v p) (sym t.says ∙ e) in
       let k : length f ≡ 488 = subst Sized m.0 t.sized in
       let n = length_payload f in
       let w : gather (min (c - (p + 1)) 63) v (p + 1) (take 488 b₁) ≡ read_at v c p =
-      ap (gather (min (c - (p + 1)) 63) v (p + 1)) (begun_front ∙ payload_whole f k) ∙ ap (λ (i : ℕ). gather (min (c - i) 63) v i f) (add-one p) ∙ sym (begins_as (head (first false f)) m.0) in (
-        y ∙ ap got_of w,
-        l ∙ ap₂ (λ (u : List ℕ) (g : Answer). splice u 0 (filled g.told)) t.leaves w
-            ∙ splice_over b₀ (payload f) (filled (read_at v c p).told) (omega (arith, filled_least (read_at v c p).told)),
-      )
+      ap (gather (min (c - (p + 1)) 63) v (p + 1)) (begun_front ∙ payload_whole f k) ∙ ap (λ (i : ℕ). gather (min (c - i) 63) v i f) (add-one p) ∙ sym (begins_as (head (first false f)) m.0) in record {
+        says = a.says ∙ ap got_of w;
+        leaves = a.leaves ∙ ap₂ (λ (u : List ℕ) (g : Answer). splice u 0 (filled g.told)) t.leaves w
+            ∙ splice_over b₀ (payload f) (filled (read_at v c p).told) (omega (arith, filled_least (read_at v c p).told));
+      }
 
 -- the end that the loop runs to
-pub rest_room : (image : List ℕ) (p end : ℕ) (v : View) (b : List ℕ) → end ≡ min (length image / 512) (p + 64) → p < length image / 512
+pub rest_room : (image : List ℕ) (p end : ℕ) (v : View) (b : List ℕ) → end ≡ min (capacity_of image) (p + 64) → p < capacity_of image
     → gather (end - (p + 1)) v (p + 1) (take ((p + 1 - p) * 488) b) ≡ gather (min (capacity_of image - (p + 1)) 63) v (p + 1) (take 488 b)
-unfolding capacity_of
 rest_room image p end v b e h =
-    let k : end - (p + 1) ≡ min (length image / 512 - (p + 1)) 63 = omega arith in
+    let k : end - (p + 1) ≡ min (capacity_of image - (p + 1)) 63 = omega arith in
     let m : (p + 1 - p) * 488 ≡ 488 = omega arith in
     ap₂ (λ (n i : ℕ). gather n v (p + 1) (take i b)) k m

@@ -1,5 +1,5 @@
--- The walk: a read that is not End goes onward and stays on the cartridge; the walk from a place by its steps; no more reads than blocks.
--- All of it holds of every view.
+-- The walk: a read that is not End goes onward and stays on the cartridge; the walk from a place by its steps; no more
+-- reads than blocks. All of it holds of every view.
 -- Assumes nothing.
 use borrow.Author.Tests.{lt-ltb, le-ltb, ltb-true}
 use mathlib.Core.Path.{◌≡◌, refl, sym, ap}

@@ -1,14 +1,15 @@
 -- What the reader's calls promise (FORMAT, "Reading"; NUMBERS).
-use Rattle.std.specs.Prelude.{◌≡◌, List, [], ◌++◌, ℕ, ◌-◌, ◌*◌, eqb, leb, ltb, length, take, replicate}
+use Rattle.std.specs.Prelude.{◌≡◌, List, [], ◌++◌, ℕ, ◌-◌, ◌*◌, eqb, leb, ltb, length, take, replicate, Ok, Err}
 use Rattle.laws.specs.Choose.{pick, first_of}
 use Rattle.laws.specs.Lists.{splice}
+use Rattle.numbers.specs.Refusals.{number_of, cause_of}
 use Rattle.block.specs.Image.{capacity_of, image_ok, image_then_key, block_at, view}
 use Rattle.reader.specs.declared.Outcome.{Outcome}
 use Rattle.reader.specs.declared.Outcome.TheVariants as o
 use Rattle.reader.specs.declared.Got.{Got}
 use Rattle.reader.specs.Walk.{Told, Record, Mark, End, Bad, Stray, Cut, Answer, read_at}
 
--- ---- an outcome as the code says it, and the number of each of its cases
+-- ---- an outcome as the code says it
 abbrev pub outcome_of : Told → Outcome
 outcome_of (Record b) = o.Record (length b)
 outcome_of Mark = o.Mark
@@ -16,15 +17,6 @@ outcome_of End = o.End
 outcome_of Bad = o.Bad
 outcome_of Stray = o.Stray
 outcome_of (Cut q) = o.Cut q
-
-abbrev pub outcome_number : Outcome → ℕ
-outcome_number (o.Record n) = 0
-outcome_number o.Mark = 0
-outcome_number o.End = 0
-outcome_number o.Bad = 0
-outcome_number o.Stray = 0
-outcome_number (o.Cut q) = 0
-outcome_number (o.Refused n) = n
 
 -- its value: a record's length, a cut's place
 abbrev pub outcome_value : Outcome → ℕ
@@ -34,7 +26,6 @@ outcome_value o.End = 0
 outcome_value o.Bad = 0
 outcome_value o.Stray = 0
 outcome_value (o.Cut q) = q
-outcome_value (o.Refused n) = 0
 
 -- the bytes handed out: a record's
 abbrev pub record_of : Told → List ℕ
@@ -53,7 +44,7 @@ unfoldable pub read_answer : List ℕ → ℕ → ℕ → List ℕ → ℕ → A
 read_answer key id recording image p = read_at (view key id recording image) (capacity_of image) p
 
 abbrev pub got_of : Answer → Got
-got_of a = record { outcome = outcome_of a.told; next = a.next }
+got_of a = record { outcome = Ok (outcome_of a.told); next = a.next }
 
 -- a record fills the front, the rest of the first 31,232 bytes is zero; bytes past them stay
 unfoldable pub filled : Told → List ℕ
@@ -63,7 +54,7 @@ filled t = record_of t ++ replicate (31232 - length (record_of t)) 0
 abbrev pub read_gives : List ℕ → ℕ → ℕ → List ℕ → ℕ → ℕ → Got
 read_gives key id recording image p room =
     pick (eqb (read_number key image p room) 0) (got_of (read_answer key id recording image p))
-    (record { outcome = o.Refused (read_number key image p room); next = p })
+    (record { outcome = Err (cause_of (read_number key image p room)); next = p })
 
 abbrev pub read_leaves : List ℕ → ℕ → ℕ → List ℕ → ℕ → List ℕ → List ℕ
 read_leaves key id recording image p buffer =
@@ -71,7 +62,7 @@ read_leaves key id recording image p buffer =
 
 pub record Read (key : List ℕ) (id recording : ℕ) (image : List ℕ) (p : ℕ) (buffer : List ℕ) (r : Got) (buffer' : List ℕ) : Type 0 where
   pub says : r ≡ read_gives key id recording image p (length buffer)
-  pub number : outcome_number r.outcome ≡ read_number key image p (length buffer)
+  pub number : number_of r.outcome ≡ read_number key image p (length buffer)
   pub leaves : buffer' ≡ read_leaves key id recording image p buffer
 
 -- ---- the record's part: the front part of the lent buffer; a length beyond it gives the empty part

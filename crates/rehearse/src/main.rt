@@ -3,41 +3,49 @@
 
 ghost use Rattle.std.specs.Prelude.{◌≤◌};
 
+use print::Answered;
+use std::io;
 use writer::{WriterState, Wrote};
 
+const KEY: [u8; 24] = [7; 24];
+
 // Verb, length, position afterwards, result; the state goes on.
-fn show<P: Print>(rt: &P, verb: &[u8], length: usize, wrote: Wrote) -> WriterState {
+fn show<P: Print>(rt: &P, verb: &str, length: usize, wrote: Wrote) -> io::Result<WriterState> {
     let state = wrote.state;
-    let reply = wrote.reply;
-    print::named(rt, verb, length as u64);
-    print::spaced(rt, state.position as u64);
-    print::result(rt, reply);
-    state
+    println!(rt;
+        "{verb} {length} {} {}",
+        state.position,
+        Answered(wrote.reply)
+    )?;
+    Ok(state)
 }
 
 // Records n bytes.
 fn record<P: Print>(
     rt: &P,
     state: WriterState,
-    key: &[u8],
     n: usize,
     image: &mut [u8],
-) -> WriterState
+) -> io::Result<WriterState>
     requires { n ≤ 1464 }
 {
     let reel = [0x5Au8; 1464];
-    show(rt, b"record ", n, state.record(key, &reel[0..n], image))
+    show(rt, "record", n, state.record(&KEY, &reel[..n], image))
 }
 
-fn main(rt: HostRuntime) {
-    let key = [7u8; 24];
+fn rehearse<P: Print>(rt: &P) -> io::Result<()> {
     let mut image = [0u8; 4096];
-    let begun = writer::start(1, 1, 3, &mut image);
-    let mut state = begun.state;
-    state = record(&rt, state, &key, 5, &mut image);
-    state = record(&rt, state, &key, 489, &mut image);
-    state = show(&rt, b"mark ", 0, state.mark(&key, &mut image));
-    state = record(&rt, state, &key, 1464, &mut image);
-    state = record(&rt, state, &key, 1, &mut image);
-    show(&rt, b"close ", 0, state.close(&key, &mut image));
+    let mut state = writer::start(1, 1, 3, &mut image).state;
+    state = record(rt, state, 5, &mut image)?;
+    state = record(rt, state, 489, &mut image)?;
+    state = show(rt, "mark", 0, state.mark(&KEY, &mut image))?;
+    state = record(rt, state, 1464, &mut image)?;
+    state = record(rt, state, 1, &mut image)?;
+    show(rt, "close", 0, state.close(&KEY, &mut image))?;
+    Ok(())
+}
+
+// Where a line can't be written it stops there; its status is 0 then too, as it was.
+fn main(rt: HostRuntime) {
+    let _ = rehearse(&rt);
 }

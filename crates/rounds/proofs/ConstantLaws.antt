@@ -1,8 +1,9 @@
--- The words of the table are the planes of the constants: one test of twelve rounds. And the code makes those words from Table 1.1.
+-- The words of the table are the planes of the constants: one test of twelve rounds. And the code makes those words
+-- from Table 1.1.
 -- Assumes nothing.
 use mathlib.Core.Path.{◌≡◌, refl, sym, ap, ap₂, subst, ◌∙◌}
 use mathlib.Core.Bool.{Bool, true, false}
-use mathlib.Core.List.{List}
+use mathlib.Core.List.{List, [], ◌∷◌}
 use mathlib.Core.Logic.{⊎_elim}
 use Prim.Native.Nat.{ℕ, ◌+◌, ◌*◌, ◌/◌, ◌%◌, ◌^◌, ◌<◌}
 use native.Mathlib.Nat.{not-suc-le-zero}
@@ -11,8 +12,10 @@ use lib.Bits.{bit_and}
 use lib.Dec.{T, eqb, eqb→eq}
 use lib.ListN.{get_or, set, replicate, length-set}
 use lib.Seq.{get_or-set_same, get_or-set_other}
+use Rattle.std.specs.Int.{w32, from_le_bytes}
+use Rattle.laws.specs.Loops.{front}
 use Rattle.laws.specs.Lists.{listed, same_to, same}
-use Rattle.laws.proofs.ListLaws.{listed_seen, listed_is}
+use Rattle.laws.proofs.ListLaws.{listed_seen, listed_is, front_all}
 use Rattle.laws.proofs.OrderLaws.{lt_or_ge}
 use Rattle.laws.proofs.SameLaws.{same_true}
 use Rattle.pi.specs.Table.{table, S}
@@ -33,24 +36,24 @@ constant_planes_lem r h =
     (true_is (same (bytes_of (constant_planes r)) (flipped (constant r)))
     (tested (λ n. same (bytes_of (constant_planes n)) (flipped (constant n))) 12 tt r h))
 
--- eight words of the table
-pub constant_is : (r : ℕ) (t : List ℕ) (w0 w1 w2 w3 w4 w5 w6 w7 : ℕ) → t ≡ halves → w0 ≡ word_at t (r * 16) → w1 ≡ word_at t (r * 16 + 2)
-    → w2 ≡ word_at t (r * 16 + 4) → w3 ≡ word_at t (r * 16 + 6) → w4 ≡ word_at t (r * 16 + 8) → w5 ≡ word_at t (r * 16 + 10)
-    → w6 ≡ word_at t (r * 16 + 12) → w7 ≡ word_at t (r * 16 + 14)
-    → ◌≡◌ {A = Planes} (record { p0 = w0; p1 = w1; p2 = w2; p3 = w3; p4 = w4; p5 = w5; p6 = w6; p7 = w7 }) (constant_planes r)
-unfolding constant_planes
-constant_is r t w0 w1 w2 w3 w4 w5 w6 w7 e a b c d f g h i = cc
+-- word b of round r's constant
+unfoldable pub rule : ℕ → ℕ → ℕ
+rule r b = word_at halves (r * 16 + 2 * b)
+
+pub constant_is : (r b : ℕ) (l : List ℕ) → l ≡ front b (rule r) (replicate 8 0) → b ≡ 8 → ◌≡◌ {A = Planes} (record { words = l }) (constant_planes r)
+unfolding constant_planes rule
+constant_is r b l e h = ap (λ (l : List ℕ). record { words = l }) (front_all 8 b (rule r) (replicate 8 0) l e refl h)
 
 -- ---- the halves, one by one
-rule : ℕ → ℕ
-rule k = bits_of (k % 16 / 2) (k / 16 * 8 + k % 2 * 4)
+half_rule : ℕ → ℕ
+half_rule k = bits_of (k % 16 / 2) (k / 16 * 8 + k % 2 * 4)
 
 found : ℕ → ℕ
 found k = bit_and (entries_at (k / 16 * 8 + k % 2 * 4) / 2 ^ (k % 16 / 2)) 0x01010101
 
 found_is : (k : ℕ) → k < 192 → found k ≡ get_or halves k 0
-unfolding rule found halves bits_of entries_at bit table S
-found_is k h = eqb→eq (found k) (rule k) (tested (λ k. eqb (found k) (rule k)) 192 tt k h) ∙ sym (listed_seen 192 rule k h)
+unfolding half_rule found halves bits_of entries_at bit table S
+found_is k h = eqb→eq (found k) (half_rule k) (tested (λ k. eqb (found k) (half_rule k)) 192 tt k h) ∙ sym (listed_seen 192 half_rule k h)
 
 -- the low half of plane b, and the high one
 low_is : (r b : ℕ) → r < 12 → b < 8 → bit_and (entries_at (r * 8) / 2 ^ b) 0x01010101 ≡ get_or halves (r * 16 + 2 * b) 0
@@ -67,10 +70,10 @@ high_is r b hr hb =
     let by : (r * 16 + 2 * b + 1) % 16 / 2 ≡ b = omega arith in
     ap₂ (λ (k n : ℕ). bit_and (entries_at k / 2 ^ n) 0x01010101) (sym at) (sym by) ∙ found_is (r * 16 + 2 * b + 1) (omega arith)
 
-pub entries_are : (t : List ℕ) (at a b c d : ℕ) → t ≡ table → a ≡ get_or t at 0 → b ≡ get_or t (at + 1) 0 → c ≡ get_or t (at + 2) 0 → d ≡ get_or t (at + 3) 0
-    → a + b * 256 + c * 65536 + d * 16777216 ≡ entries_at at
+pub entries_are : (t : List ℕ) (at r : ℕ) → t ≡ table
+    → r ≡ from_le_bytes w32 (get_or t at 0 ∷ get_or t (at + 1) 0 ∷ get_or t (at + 2) 0 ∷ get_or t (at + 3) 0 ∷ []) → r ≡ entries_at at
 unfolding entries_at S
-entries_are t at a b c d e ea eb ec ed = cc
+entries_are t at r e f = f ∙ ap (λ (t : List ℕ). from_le_bytes w32 (get_or t at 0 ∷ get_or t (at + 1) 0 ∷ get_or t (at + 2) 0 ∷ get_or t (at + 3) 0 ∷ [])) e
 
 -- ---- done so far: one more, and all
 one_more : (k : List ℕ) (n x : ℕ) → n < 192 → Made n k → x ≡ get_or halves n 0 → Made (n + 1) (set k n x)

@@ -14,12 +14,12 @@ use Rattle.pi.proofs.Build.{state_at, state_same}
 use Rattle.pi.proofs.StateLaws.{Full}
 use Rattle.pi.proofs.ShiftLaws.{shift⁻_full}
 use Rattle.pi.proofs.MixLaws.{mix⁻_full}
-use Rattle.pi.proofs.RoundLaws.{added_full, constant_full}
+use Rattle.pi.proofs.RoundLaws.{added_full, constant_full, round_full, round⁻_full}
 use Rattle.planes.specs.Planes.{flipped, plus, bytes_of}
 use Rattle.planes.specs.declared.Planes.{Planes}
 use Rattle.planes.proofs.FlipLaws.{flip_flip, flipped_added, plus_plus, shift_plus, shift⁻_plus, mix_with_plus, mix_plus}
-use Rattle.rounds.specs.Rounds.{constant_planes, alike}
-use Rattle.rounds.proofs.AlikeLaws.{alike_full, plus_added}
+use Rattle.rounds.specs.Rounds.{constant_planes, alike, held}
+use Rattle.rounds.proofs.AlikeLaws.{alike_full, plus_added, held_full, on_held, held_of}
 use Rattle.rounds.proofs.ConstantLaws.{constant_planes_lem}
 
 -- the planes of a constant, as a state
@@ -89,3 +89,16 @@ back_on key y s t u w e g =
     ∙ ap (λ (x : List ℕ). plus 0x5D (substitute⁻ (plus 0x26 (shift⁻ x)))) (mix⁻_plus z)
     ∙ ap (λ (x : List ℕ). plus 0x5D (substitute⁻ (plus 0x26 x))) (shift⁻_plus 0x26 (mix⁻ z))
     ∙ ap (λ (x : List ℕ). plus 0x5D (substitute⁻ x)) (plus_plus 0x26 (shift⁻ (mix⁻ z)) (shift⁻_full (mix⁻ z) (mix⁻_full z (added_full key y u w))))
+
+-- ---- of the state that planes hold
+pub round_held : (r : ℕ) (s t : List ℕ)
+    → flipped t ≡ added (constant r) (mix (shift (plus 0xD5 (substitute (plus 0x62 (flipped s)))))) → held 0x62 t ≡ round (constant r) (held 0x62 s)
+round_held r s t e =
+    held_of 0x62 t _ (round_full (constant r) (held 0x62 s) (constant_full r))
+    (round_on (constant r) (held 0x62 s) s t (held_full 0x62 s (lit< tt)) (on_held 0x62 s) e)
+
+pub back_held : (r : ℕ) (s t : List ℕ)
+    → flipped t ≡ plus 0x5D (substitute⁻ (plus 0x26 (shift⁻ (mix⁻ (added (added (alike 0x37) (constant r)) (flipped s)))))) → held 0x5D t ≡ round⁻ (constant r) (held 0x5D s)
+back_held r s t e =
+    held_of 0x5D t _ (round⁻_full (constant r) (held 0x5D s))
+    (back_on (constant r) (held 0x5D s) s t (constant_full r) (held_full 0x5D s (lit< tt)) (on_held 0x5D s) e)

@@ -1,9 +1,10 @@
--- The rounds of π on planes. The planes of each round's constant: at 16 r + 2 b the low half of word b, and the high one behind it.
+-- The rounds of π on planes. The planes of each round's constant: at 16 r + 2 b the low half of word b, and the high
+-- one behind it.
 use Rattle.std.specs.Prelude.{◌≡◌, List, ℕ, ◌+◌, ◌*◌, ◌/◌, ◌%◌, ◌<◌, length, get_or}
 use Rattle.laws.specs.Lists.{listed}
 use Rattle.pi.specs.Table.{S}
 use Rattle.pi.specs.Permutation.{state_by}
-use Rattle.planes.specs.Planes.{bit}
+use Rattle.planes.specs.Planes.{bit, flipped, plus}
 use Rattle.planes.specs.declared.Planes.{Planes}
 
 -- the bits b of four entries of Table 1.1, a byte each
@@ -25,18 +26,12 @@ unfoldable pub word_at : List ℕ → ℕ → ℕ
 word_at t k = get_or t (k + 1) 0 * 4294967296 + get_or t k 0
 
 unfoldable pub constant_planes : ℕ → Planes
-constant_planes r =
-    record {
-      p0 = word_at halves (r * 16);
-      p1 = word_at halves (r * 16 + 2);
-      p2 = word_at halves (r * 16 + 4);
-      p3 = word_at halves (r * 16 + 6);
-      p4 = word_at halves (r * 16 + 8);
-      p5 = word_at halves (r * 16 + 10);
-      p6 = word_at halves (r * 16 + 12);
-      p7 = word_at halves (r * 16 + 14);
-    }
+constant_planes r = record { words = listed 0 8 (λ b. word_at halves (r * 16 + 2 * b)) }
 
 -- the state whose bytes all are c
 unfoldable pub alike : ℕ → List ℕ
 alike c = state_by (λ k. c)
+
+-- the state that planes hold with c added to each byte
+unfoldable pub held : ℕ → List ℕ → List ℕ
+held c s = plus c (flipped s)

@@ -14,7 +14,9 @@ use Rattle.laws.proofs.OrderLaws.{lt_or_ge}
 use Rattle.laws.proofs.SpliceLaws.{length_splice, splice_whole, take_splice, splice_before, splice_after}
 use Rattle.laws.proofs.XorLaws.{xor_swap, xor_zero, xor_back}
 use Rattle.pi.specs.Permutation.{state_by, added}
-use Rattle.pi.proofs.Build.{length_state_by, state_at, state_is}
+use Rattle.sponge.specs.Blink.{enc, dec, kept, given}
+use Rattle.sponge.specs.Ways.{Worked}
+use Rattle.pi.proofs.Build.{added_is, length_state_by, state_at, state_is}
 
 -- what `buffer::copy` leaves of a source that is no shorter
 pub laid : (to from : List ℕ) → length to ≤ length from → splice to 0 (take (length to) from) ≡ take (length to) from
@@ -59,3 +61,17 @@ pub splice_masked : (g v : List ℕ) → length g ≤ 64 → length v ≡ 64 →
 splice_masked g v small full =
     sym (added_masked (take (length g) (added g v)) v (omega (arith, length_masked g v small)) full)
     ∙ ap (λ (t : List ℕ). added t v) (masked_masked g v small full)
+
+-- ---- what the code of each operation leaves of a group
+module _ (g v : List ℕ) (small : length g ≤ 32) (full : length v ≡ 64) where
+  pub encrypted : (v' g' : List ℕ) → v' ≡ xor_into g v → length v' ≡ 64 → g' ≡ splice g 0 (take (length g) v') → Worked enc g v v' g'
+  unfolding kept given
+  encrypted v' g' s w b =
+      let e = s ∙ added_is g v full in
+      record { state = e; bytes = b ∙ laid g v' (omega arith) ∙ ap (take (length g)) e }
+
+  pub decrypted : (v' g' : List ℕ) → g' ≡ xor_into v g → v' ≡ xor_into g' v → Worked dec g v v' g'
+  unfolding kept given
+  decrypted v' g' b s =
+      let e = b ∙ masked_is g v (omega arith) in
+      record { state = s ∙ added_is g' v full ∙ ap (λ (t : List ℕ). added t v) e ∙ added_masked g v (omega arith) full; bytes = e }

@@ -2,8 +2,7 @@
 pub mod Groups
 pub mod Lengths
 pub mod Steps
-pub mod Answers
+pub mod CallLaws
 pub mod Trips
 pub mod Bytes
 pub mod Unique
-pub mod CallLaws

@@ -7,25 +7,18 @@ use Prim.Native.Nat.{ℕ, suc, min, ◌+◌, ◌-◌, ◌*◌, ◌/◌, ◌≤�
 use native.Mathlib.Omega.{arith}
 use native.Mathlib.Numerals.{add-one}
 use borrow.Author.Tests.{lt-ltb, le-ltb}
-use lib.Dec.{T}
-use lib.ListN.{length, take, drop, length-drop, drop_of_length-le}
+use lib.ListN.{length, take, drop, length-append, length-drop, drop_of_length-le}
 use lib.Seq.{take_at, drop_at, drop-drop, take_all}
 use Rattle.laws.specs.Xor.{xor}
 use Rattle.laws.proofs.OrderLaws.{lt_or_ge}
 use Rattle.pi.specs.Permutation.{π}
 use Rattle.sponge.specs.Blink.{Op, kept, given, into, pad_between, pad_close, group, runs, met, gave, after, out}
-use Rattle.sponge.specs.Ways.{op_of}
-use Rattle.sponge.specs.declared.Way.{Way}
-use Rattle.sponge.specs.declared.Way.TheVariants.{Get, Enc, Dec}
-use Rattle.sponge.proofs.Lengths.{gives, length_gave}
+use Rattle.sponge.specs.Ways.{Worked, RanAll}
+use Rattle.sponge.proofs.Lengths.{length_group}
 
 pub met_none : (op : Op) (domain : ℕ) (v s : List ℕ) → v ≡ met op domain v s 0
 unfolding met
 met_none op domain v s = refl
-
-pub gave_none : (op : Op) (domain : ℕ) (v s : List ℕ) → s ≡ gave op domain v s 0 ++ drop (0 * 32) s
-unfolding gave
-gave_none op domain v s = refl
 
 module _ (op : Op) (domain : ℕ) (v s : List ℕ) (k : ℕ) (v₁ v₂ v₃ g : List ℕ) (here : v₁ ≡ met op domain v s k) (part : g ≡ group s k) (done : v₂ ≡ kept op v₁ g) where
   so_far : v₂ ≡ kept op (met op domain v s k) (group s k)
@@ -47,49 +40,78 @@ module _ (s : List ℕ) (k n : ℕ) (e : n ≡ min 32 (length s - k * 32)) where
   rest_length : length (drop (k * 32) s) ≡ length s - k * 32
   rest_length = length-drop (k * 32) s
 
-  pub group_is : take n (drop (k * 32) s) ≡ group s k
+  group_is : take n (drop (k * 32) s) ≡ group s k
   unfolding group
   group_is =
       ⊎_elim (λ p. take_all n (drop (k * 32) s) (omega (arith, rest_length)) ∙ sym (take_all 32 (drop (k * 32) s) (omega (arith, rest_length))))
       (λ p. let f : n ≡ 32 = omega arith in ap (λ (m : ℕ). take m (drop (k * 32) s)) f) (lt_or_ge (length s - k * 32) 32)
 
-  pub left_is : drop n (drop (k * 32) s) ≡ drop ((k + 1) * 32) s
+  left_is : drop n (drop (k * 32) s) ≡ drop ((k + 1) * 32) s
   left_is =
       drop-drop n (k * 32) s
       ∙ ⊎_elim (λ p. drop_of_length-le s {i = k * 32 + n} (omega arith) ∙ sym (drop_of_length-le s {i = (k + 1) * 32} (omega arith)))
       (λ p. let f : k * 32 + n ≡ (k + 1) * 32 = omega arith in ap (λ (m : ℕ). drop m s) f) (lt_or_ge (length s - k * 32) 32)
 
--- ---- the buffer io, in which k groups are done, and the next is worked on as n bytes from k * 32 on
-module _ (op : Op) (t : T (gives op)) (domain : ℕ) (v s : List ℕ) (k n : ℕ) (io : List ℕ) (full : length v ≡ 64) (inside : k * 32 ≤ length s) (e : n ≡ min 32 (length s - k * 32)) (so : io ≡ gave op domain v s k ++ drop (k * 32) s) where
+-- ---- group k at the front of what is left of s
+module _ (s : List ℕ) (k : ℕ) (g left : List ℕ) (full : length g ≡ 32) (e : drop (k * 32) s ≡ g ++ left) where
+  pub front_is : g ≡ group s k
+  unfolding group
+  front_is = sym (ap (take 32) e ∙ take_at g left 32 full)
+
+  pub behind_is : drop ((k + 1) * 32) s ≡ left
+  behind_is =
+      let n : (k + 1) * 32 ≡ k * 32 + 32 = omega arith in
+      ap (λ (j : ℕ). drop j s) n ∙ sym (drop-drop 32 (k * 32) s) ∙ ap (drop 32) e ∙ drop_at g left 32 full
+
+-- the last group is all that is left
+pub rest_is_group : (s : List ℕ) (k : ℕ) (g : List ℕ) → length g ≤ 32 → drop (k * 32) s ≡ g → g ≡ group s k
+unfolding group
+rest_is_group s k g h e = sym (ap (take 32) e ∙ take_all 32 g h)
+
+-- ---- the buffer io, in which k groups are done, the state v'; what stands behind them in io is s
+pub record Done (op : Op) (domain : ℕ) (v s : List ℕ) (k : ℕ) (v' io : List ℕ) : Type 0 where
+  pub state : v' ≡ met op domain v s k
+  pub bytes : io ≡ gave op domain v s k ++ drop (k * 32) s
+
+pub done_none : (op : Op) (domain : ℕ) (v s : List ℕ) → Done op domain v s 0 v s
+unfolding met gave
+done_none op domain v s = record { state = refl; bytes = refl }
+
+-- the next group is worked on as n bytes from k * 32 on
+module _ {op : Op} {domain : ℕ} {v s : List ℕ} {k : ℕ} {v₁ io : List ℕ} (d : Done op domain v s k v₁ io) (same : length io ≡ length s)
+    (inside : k * 32 ≤ length s) (n : ℕ) (e : n ≡ min 32 (length s - k * 32)) {v₂ g' : List ℕ} (w : Worked op (take n (drop (k * 32) io)) v₁ v₂ g')
+    (v₃ : List ℕ) where
   gone : length (gave op domain v s k) ≡ k * 32
-  gone = omega (arith, length_gave op t domain v s k full)
+  gone = omega (arith, simp (length-append, length-drop) at (ap length d.bytes))
 
   rest_is : drop (k * 32) io ≡ drop (k * 32) s
-  rest_is = ap (drop (k * 32)) so ∙ drop_at (gave op domain v s k) (drop (k * 32) s) (k * 32) gone
+  rest_is = ap (drop (k * 32)) d.bytes ∙ drop_at (gave op domain v s k) (drop (k * 32) s) (k * 32) gone
 
-  pub part_is : take n (drop (k * 32) io) ≡ group s k
+  part_is : take n (drop (k * 32) io) ≡ group s k
   part_is = ap (take n) rest_is ∙ group_is s k n e
 
-  pub gave_more : (v₁ g g' : List ℕ) → v₁ ≡ met op domain v s k → g ≡ group s k → g' ≡ given op v₁ g
-      → take (k * 32) io ++ (g' ++ drop n (drop (k * 32) io)) ≡ gave op domain v s (k + 1) ++ drop ((k + 1) * 32) s
+  gave_more : take (k * 32) io ++ (g' ++ drop n (drop (k * 32) io)) ≡ gave op domain v s (k + 1) ++ drop ((k + 1) * 32) s
   unfolding gave
-  gave_more v₁ g g' here part done =
-      ap₂ (λ (a b : List ℕ). a ++ (g' ++ b)) (ap (take (k * 32)) so ∙ take_at (gave op domain v s k) (drop (k * 32) s) (k * 32) gone) (ap (drop n) rest_is ∙ left_is s k n e)
-      ∙ ap (λ (b : List ℕ). gave op domain v s k ++ (b ++ drop ((k + 1) * 32) s)) (done ∙ ap₂ (given op) here part)
+  gave_more =
+      ap₂ (λ (a b : List ℕ). a ++ (g' ++ b)) (ap (take (k * 32)) d.bytes ∙ take_at (gave op domain v s k) (drop (k * 32) s) (k * 32) gone) (ap (drop n) rest_is ∙ left_is s k n e)
+      ∙ ap (λ (b : List ℕ). gave op domain v s k ++ (b ++ drop ((k + 1) * 32) s)) (w.bytes ∙ ap₂ (given op) d.state part_is)
       ∙ sym (append_assoc (gave op domain v s k) (given op (met op domain v s k) (group s k)) (drop ((k + 1) * 32) s))
       ∙ ap (λ (j : ℕ). gave op domain v s j ++ drop ((k + 1) * 32) s) (sym (add-one k))
 
-pub gave_last : (op : Op) (domain : ℕ) (v s : List ℕ) (k : ℕ) (io : List ℕ) → k ≡ (length s - 1) / 32
-    → io ≡ gave op domain v s (k + 1) ++ drop ((k + 1) * 32) s → io ≡ out op domain v s
-unfolding out runs
-gave_last op domain v s k io ek e =
-    let j : k + 1 ≡ suc ((length s - 1) / 32) = omega arith in
-    e
-    ∙ ap (λ (b : List ℕ). gave op domain v s (k + 1) ++ b) (drop_of_length-le s {i = (k + 1) * 32} (omega arith))
-    ∙ append-nil (gave op domain v s (k + 1))
-    ∙ ap (gave op domain v s) j
+  pub done_more : k < (length s - 1) / 32 → v₃ ≡ π (into 32 domain v₂)
+      → Done op domain v s (k + 1) v₃ (take (k * 32) io ++ (g' ++ drop n (drop (k * 32) io)))
+  done_more h p = record { state = met_more op domain v s k v₁ v₂ v₃ _ d.state part_is w.state h p; bytes = gave_more }
 
-pub way_gives : (w : Way) → T (gives (op_of w))
-way_gives Get = tt
-way_gives Enc = tt
-way_gives Dec = tt
+  pub done_last : (j : ℕ) → j ≡ n → k ≡ (length s - 1) / 32 → v₃ ≡ π (into 32 (xor 0x02 domain) (into j 0x01 v₂))
+      → RanAll op domain s v v₃ (take (k * 32) io ++ (g' ++ drop n (drop (k * 32) io)))
+  unfolding out runs
+  done_last j i h p =
+      let l : k + 1 ≡ suc ((length s - 1) / 32) = omega arith in
+      record {
+        state = met_last op domain v s k v₁ v₂ v₃ _ d.state part_is w.state j (omega (arith, ap length part_is, length_group s k)) h p;
+        bytes =
+            gave_more
+            ∙ ap (λ (b : List ℕ). gave op domain v s (k + 1) ++ b) (drop_of_length-le s {i = (k + 1) * 32} (omega arith))
+            ∙ append-nil (gave op domain v s (k + 1))
+            ∙ ap (gave op domain v s) l;
+      }

@@ -14,8 +14,7 @@ use Rattle.laws.specs.Choose.{pick}
 use Rattle.sponge.specs.Blink.{Op, enc, dec, kept, given, pad_between, pad_close, group, runs, met, gave, after, out, Ran}
 use Rattle.sponge.proofs.Groups.{added_masked, masked_masked, splice_masked}
 use Rattle.sponge.proofs.Lengths.{gives, length_given, length_group, runs_same, runs_hold, runs_full, length_met, length_gave, length_out}
-use Rattle.sponge.proofs.Answers.{allowed}
-use Rattle.sponge.proofs.CallLaws.{number_zero, ran_state, ran_bytes}
+use Rattle.sponge.proofs.CallLaws.{allowed, number_zero, ran_state, ran_bytes}
 
 -- back undoes op on each group
 pub record Undoes (back op : Op) : Type 0 where

@@ -1,13 +1,6 @@
--- Cited by private contracts alone: the code's name of an operation that gives bytes, and what its parts promise.
+-- Cited by private contracts alone: what an operation promises of one group, and of all.
 use Rattle.std.specs.Prelude.{◌≡◌, List, ℕ}
-use Rattle.sponge.specs.Blink.{Op, get, enc, dec, kept, given, after, out}
-use Rattle.sponge.specs.declared.Way.{Way}
-use Rattle.sponge.specs.declared.Way.TheVariants.{Get, Enc, Dec}
-
-abbrev pub op_of : Way → Op
-op_of Get = get
-op_of Enc = enc
-op_of Dec = dec
+use Rattle.sponge.specs.Blink.{Op, kept, given, after, out}
 
 -- one group g
 pub record Worked (op : Op) (g v v' g' : List ℕ) : Type 0 where

@@ -1,86 +1,96 @@
 // The four BLNK block operations.
 #![tactic(auto)]
 
-ghost use Rattle.std.specs.Prelude.{◌≡◌, ◌-◌, ◌/◌, ◌≤◌, ◌<◌, length, take};
+ghost use Rattle.std.specs.Prelude.{◌≡◌, ◌-◌, ◌/◌, ◌≤◌, ◌<◌, leb, length};
+ghost use Rattle.laws.specs.Choose.{first_of};
 ghost use Rattle.laws.specs.Xor.{xor};
-ghost use Rattle.pi.specs.Permutation.{π, added};
-ghost use Rattle.sponge.specs.Blink.{put, get, enc, dec, into, after, number, Put, Ran};
-ghost use Rattle.sponge.specs.Ways.{op_of, Worked, RanAll};
+ghost use Rattle.numbers.specs.Refusals.{number_of};
+ghost use Rattle.pi.specs.Permutation.{π};
+ghost use Rattle.sponge.specs.Blink.{Op, put, get, enc, dec, into, after, Put, Ran};
+ghost use Rattle.sponge.specs.Ways.{Worked, RanAll};
 
-use numbers::{ABOVE_LIMIT, DONE, OPERATION_MAX, RATE_BYTES, STATE_BYTES, WRONG_LENGTH};
+use numbers::{OPERATION_MAX, RATE_BYTES, Refusal, STATE_BYTES};
 
-// The operations that give bytes.
-#[derive(Clone, Copy)]
-enum Way {
-    Get,
-    Enc,
-    Dec,
+type State = [u8; STATE_BYTES];
+
+// ---- A group: at most 32 bytes against the front of the state, taken in by xor.
+// What an operation that gives bytes does with one group.
+trait Way {
+    ghost op: { Op };
+
+    fn work(state: &mut State, group: &mut [u8])
+        requires { length group.old ≤ 32 }
+        ensures { Worked op group.old state.old state.new group.new };
 }
 
-// ---- A group: at most 32 bytes against the front of the state.
-// The group into the state, by xor.
-fn add(state: &mut [u8], group: &[u8])
-    requires { (length state.old ≡ 64) × (length group.now ≤ 32) }
-    ensures { state.new ≡ added group.now state.old }
-{
-    buffer::add(state, group);
+struct Squeeze;
+
+impl Way for Squeeze {
+    ghost op = { get };
+
+    #[tactic(auto, using(crate::proofs::Groups::laid), unfolding(crate::specs::Blink::kept, crate::specs::Blink::given))]
+    fn work(state: &mut State, group: &mut [u8]) {
+        buffer::copy(group, state);
+    }
 }
 
-// The state into the group, by xor.
-fn mask(group: &mut [u8], state: &[u8])
-    requires { (length state.now ≡ 64) × (length group.old ≤ 32) }
-    ensures { group.new ≡ take (length group.old)
-        (added group.old state.now) }
-{
-    buffer::add(group, state);
+struct Encrypt;
+
+impl Way for Encrypt {
+    ghost op = { enc };
+
+    fn work(state: &mut State, group: &mut [u8]) {
+        buffer::add(state, group);
+        buffer::copy(group, state); // the ciphertext
+    }
 }
 
-// dec masks the ciphertext; the plaintext, added, then makes it the state's front.
-fn work(way: Way, state: &mut [u8], group: &mut [u8])
-    requires { (length state.old ≡ 64) × (length group.old ≤ 32) }
-    ensures { Worked (op_of way) group.old state.old state.new group.new }
-{
-    match way {
-        Way::Get => {
-            buffer::copy(group, state);
-        }
-        Way::Enc => {
-            add(state, group);
-            buffer::copy(group, state); // the ciphertext
-        }
-        Way::Dec => {
-            mask(group, state);
-            add(state, group);
-        }
+// Masks the ciphertext; the plaintext, added, then makes it the state's front.
+struct Decrypt;
+
+impl Way for Decrypt {
+    ghost op = { dec };
+
+    fn work(state: &mut State, group: &mut [u8]) {
+        buffer::add(group, state);
+        buffer::add(state, group);
     }
 }
 
 // ---- The padding, and π.
 // x into byte i, by xor.
-fn into_byte(state: &mut [u8], i: usize, x: u8)
-    requires { i < length state.old }
+#[tactic(auto, unfolding(crate::specs::Blink::into, laws::specs::Xor::xor))]
+fn into_byte(state: &mut State, i: usize, x: u8)
+    requires { i < 64 }
     ensures { state.new ≡ into i x state.old }
 {
-    state[i] = state[i] ^ x;
+    state[i] ^= x;
+}
+
+#[tactic(auto, using(crate::proofs::CallLaws::accepted), unfolding(pi::specs::Permutation::is_state))]
+fn turn(state: &mut State)
+    ensures { state.new ≡ π state.old }
+{
+    permutation::permute(state).unwrap();
 }
 
 // Behind a group that is not the last.
-fn between(state: &mut [u8], domain: u8)
-    requires { length state.old ≡ 64 }
+fn between(state: &mut State, domain: u8)
     ensures { state.new ≡ π (into 32 domain state.old) }
 {
     into_byte(state, RATE_BYTES, domain);
-    permutation::permute(state);
+    turn(state);
 }
 
 // Behind the last group, which has n bytes.
-fn close(state: &mut [u8], n: usize, domain: u8)
-    requires { (length state.old ≡ 64) × (n ≤ 32) }
+#[tactic(auto, unfolding(laws::specs::Xor::xor))]
+fn close(state: &mut State, n: usize, domain: u8)
+    requires { n ≤ 32 }
     ensures { state.new ≡ π (into 32 (xor 0x02 domain) (into n 0x01 state.old)) }
 {
     into_byte(state, n, 0x01);
     into_byte(state, RATE_BYTES, 0x02 ^ domain);
-    permutation::permute(state);
+    turn(state);
 }
 
 // ---- The groups, one after another.
@@ -88,112 +98,112 @@ fn close(state: &mut [u8], n: usize, domain: u8)
 fn last(n: usize) -> usize
     ensures { result ≡ (n - 1) / 32 }
 {
-    if n == 0 { 0 } else { (n - 1) / RATE_BYTES }
+    n.saturating_sub(1) / RATE_BYTES
 }
 
-// All of the bytes into the state.
-fn absorb(state: &mut [u8], bytes: &[u8], domain: u8)
-    requires { (length state.old ≡ 64) × (length bytes.now ≤ 65536) }
+// All of the bytes into the state. Apart from `run`: this reads what it is lent, that writes it, and no type stands for
+// both.
+fn absorb(state: &mut State, bytes: &[u8], domain: u8)
     ensures { state.new ≡ after put domain state.old bytes.now }
 {
-    let n = bytes.len();
-    let m = last(n);
-    for k in 0..m {
-        let at = k * RATE_BYTES;
-        add(state, &bytes[at..at + RATE_BYTES]);
+    let (full, rest) = bytes.split_at(last(bytes.len()) * RATE_BYTES);
+    for group in full.chunks_exact(RATE_BYTES) {
+        buffer::add(state, group);
         between(state, domain);
     }
-    let at = m * RATE_BYTES;
-    add(state, &bytes[at..]);
-    close(state, n - at, domain);
+    buffer::add(state, rest);
+    close(state, rest.len(), domain);
 }
 
-// All of io, in place.
-fn run(way: Way, state: &mut [u8], io: &mut [u8], domain: u8)
-    requires { (length state.old ≡ 64) × (length io.old ≤ 65536) }
-    ensures { RanAll (op_of way) domain io.old state.old state.new
-        io.new }
+// All of io, in place. By index: what is written through `chunks_exact_mut` is not known to a proof afterwards.
+fn run<W: Way>(state: &mut State, io: &mut [u8], domain: u8)
+    ensures { RanAll W.op domain io.old state.old state.new io.new }
 {
     let n = io.len();
     let m = last(n);
     for k in 0..m {
         let at = k * RATE_BYTES;
-        work(way, state, &mut io[at..at + RATE_BYTES]);
+        W::work(state, &mut io[at..at + RATE_BYTES]);
         between(state, domain);
     }
     let at = m * RATE_BYTES;
-    work(way, state, &mut io[at..]);
+    W::work(state, &mut io[at..]);
     close(state, n - at, domain);
 }
 
-// ---- The calls: 0, or the number of the refusal, and then nothing is changed.
-fn number(state: &[u8], bytes: &[u8], out: &[u8]) -> u8
-    ensures { result ≡ number state.now bytes.now out.now }
+// ---- The calls. Refused, nothing is changed.
+fn limited(n: usize) -> Result<(), Refusal>
+    ensures { number_of result ≡ first_of (leb n 65536) 9 0 }
 {
-    if state.len() != STATE_BYTES {
-        return WRONG_LENGTH;
-    }
-    if out.len() != bytes.len() {
-        return WRONG_LENGTH;
-    }
-    if bytes.len() <= OPERATION_MAX {
-        DONE
+    if n > OPERATION_MAX {
+        Err(Refusal::AboveLimit)
     } else {
-        ABOVE_LIMIT
+        Ok(())
     }
 }
 
 // Absorbs the bytes.
-pub fn put(state: &mut [u8], bytes: &[u8], domain: u8) -> u8
-    ensures { Put domain bytes.now state.old result state.new }
+#[tactic(auto, unfolding(crate::specs::Blink::number, pi::specs::Permutation::is_state))]
+pub fn put(state: &mut [u8], bytes: &[u8], domain: u8) -> Result<(), Refusal>
+    ensures { Put domain bytes.now state.old (number_of result) state.new }
 {
-    let no = number(state, bytes, bytes);
-    if no != DONE {
-        return no;
-    }
+    let state = state
+        .as_mut_array::<STATE_BYTES>()
+        .ok_or(Refusal::WrongLength)?;
+    limited(bytes.len())?;
     absorb(state, bytes, domain);
-    DONE
+    Ok(())
 }
 
 // Squeezes out as many bytes as `out` has.
-pub fn get(state: &mut [u8], out: &mut [u8], domain: u8) -> u8
-    ensures { Ran get domain out.old state.old out.old result state.new
+#[tactic(auto, unfolding(crate::specs::Blink::number, pi::specs::Permutation::is_state))]
+pub fn get(state: &mut [u8], out: &mut [u8], domain: u8) -> Result<(), Refusal>
+    ensures { Ran get domain out.old state.old out.old (number_of result) state.new
         out.new }
 {
-    let no = number(state, out, out);
-    if no != DONE {
-        return no;
-    }
-    run(Way::Get, state, out, domain);
-    DONE
+    let state = state
+        .as_mut_array::<STATE_BYTES>()
+        .ok_or(Refusal::WrongLength)?;
+    limited(out.len())?;
+    run::<Squeeze>(state, out, domain);
+    Ok(())
 }
 
 // enc and dec: the bytes are copied, then worked on in place.
-fn through(way: Way, state: &mut [u8], bytes: &[u8], out: &mut [u8], domain: u8) -> u8
-    ensures { Ran (op_of way) domain bytes.now state.old out.old result
+#[tactic(auto, unfolding(crate::specs::Blink::number, pi::specs::Permutation::is_state))]
+fn through<W: Way>(
+    state: &mut [u8],
+    bytes: &[u8],
+    out: &mut [u8],
+    domain: u8,
+) -> Result<(), Refusal>
+    ensures { Ran W.op domain bytes.now state.old out.old (number_of result)
         state.new out.new }
 {
-    let no = number(state, bytes, out);
-    if no != DONE {
-        return no;
+    let state = state
+        .as_mut_array::<STATE_BYTES>()
+        .ok_or(Refusal::WrongLength)?;
+    if out.len() != bytes.len() {
+        return Err(Refusal::WrongLength);
     }
-    buffer::copy(out, bytes);
-    run(way, state, out, domain);
-    DONE
+    limited(bytes.len())?;
+    out.copy_from_slice(bytes);
+    run::<W>(state, out, domain);
+    Ok(())
 }
 
 // Encrypts the message to `out`.
-pub fn enc(state: &mut [u8], message: &[u8], out: &mut [u8], domain: u8) -> u8
-    ensures { Ran enc domain message.now state.old out.old result state.new
+pub fn enc(state: &mut [u8], message: &[u8], out: &mut [u8], domain: u8) -> Result<(), Refusal>
+    ensures { Ran enc domain message.now state.old out.old (number_of result) state.new
         out.new }
 {
-    through(Way::Enc, state, message, out, domain)
+    through::<Encrypt>(state, message, out, domain)
 }
 
 // Decrypts the ciphertext to `out`.
-pub fn dec(state: &mut [u8], cipher: &[u8], out: &mut [u8], domain: u8) -> u8
-    ensures { Ran dec domain cipher.now state.old out.old result state.new
+pub fn dec(state: &mut [u8], cipher: &[u8], out: &mut [u8], domain: u8) -> Result<(), Refusal>
+    ensures { Ran dec domain cipher.now state.old out.old (number_of result) state.new
         out.new }
 {
-    through(Way::Dec, state, cipher, out, domain)
+    through::<Decrypt>(state, cipher, out, domain)
 }

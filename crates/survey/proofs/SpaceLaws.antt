@@ -1,4 +1,5 @@
--- Spacing, one block a step: a block that shows a mark or end of data is met at its own place, and any other is passed over.
+-- Spacing, one block a step: a block that shows a mark or end of data is met at its own place, and any other is passed
+-- over.
 -- Assumes nothing.
 use borrow.Author.Tests.{eq-eqb, ne_eqb, lt-ltb, le-ltb}
 use mathlib.Core.Path.{◌≡◌, refl, ap, ◌∙◌}
@@ -10,11 +11,11 @@ use native.Mathlib.Omega.{arith}
 use Rattle.block.specs.Content.{Content, shut, more, head, first, mark, eod}
 use Rattle.block.specs.Image.{View}
 use Rattle.block.specs.Calls.{seen_of}
+use Rattle.block.specs.declared.Seen.TheVariants as seen
 use Rattle.reader.specs.Walk.{mark_or_end, Answer, inside, gather, between, read_at}
 use Rattle.survey.specs.declared.Spaced.{Spaced}
-use Rattle.survey.specs.declared.Spaced.TheVariants as s
-use Rattle.survey.specs.Spacing.{space_from}
-use Rattle.survey.specs.Steps.{told_between}
+use Rattle.survey.specs.Spacing.{spaced_at, spaced_short, space_from}
+use Rattle.reader.proofs.GatherLaws.{mark_seen, end_seen}
 use Rattle.reader.proofs.GapLaws.{Quiet, Gap, here, step, gap_le, read_gap}
 use Rattle.reader.proofs.WalkLaws.{read_onward}
 
@@ -47,28 +48,22 @@ passed_on (head (first false b)) v c p m e o k = record_gather (min (c - suc p) 
 passed_on (head mark) v c p m e o k = absurd k
 passed_on (head eod) v c p m e o k = absurd k
 
--- ---- what is told of a block by number
-record Shown (x : Content) (told : ℕ) : Type 0 where
-  end : told ≡ 2 → x ≡ head eod
-  mark : told ≡ 1 → x ≡ head mark
-  other : (told ≡ 2 → ⊥) → (told ≡ 1 → ⊥) → Passed x
-
-shown_by : (x : Content) → Shown x (told_between (seen_of x))
-shown_by shut = record { end = λ e. absurd (omega arith); mark = λ e. absurd (omega arith); other = λ e k. tt }
-shown_by (more l b) = record { end = λ e. absurd (omega arith); mark = λ e. absurd (omega arith); other = λ e k. tt }
-shown_by (head (first true b)) = record { end = λ e. absurd (omega arith); mark = λ e. absurd (omega arith); other = λ e k. tt }
-shown_by (head (first false b)) = record { end = λ e. absurd (omega arith); mark = λ e. absurd (omega arith); other = λ e k. tt }
-shown_by (head mark) = record { end = λ e. absurd (omega arith); mark = λ e. refl; other = λ e k. k refl }
-shown_by (head eod) = record { end = λ e. refl; mark = λ e. absurd (omega arith); other = λ e k. e refl }
+-- ---- what the code sees
+passed_by : (x : Content) → (seen_of x ≡ seen.End → ⊥) → (seen_of x ≡ seen.Mark → ⊥) → Passed x
+passed_by shut e m = tt
+passed_by (more l b) e m = tt
+passed_by (head (first l b)) e m = tt
+passed_by (head mark) e m = m refl
+passed_by (head eod) e m = e refl
 
 module _ (v : View) (c n m : ℕ) where
-  pub space_none : (p f : ℕ) → n ≡ 0 → s.At p ≡ space_from f v c p n m
+  pub space_none : (p f : ℕ) → n ≡ 0 → spaced_at p ≡ space_from f v c p n m
   unfolding space_from
   space_none p zero e = rw (eq-eqb _ _ e)
   space_none p (suc f) e = rw (eq-eqb _ _ e)
 
   module _ (e : n ≡ 0 → ⊥) where
-    pub space_over : (p f : ℕ) → c ≤ p → s.Short m p ≡ space_from f v c p n m
+    pub space_over : (p f : ℕ) → c ≤ p → spaced_short m p ≡ space_from f v c p n m
     unfolding space_from
     space_over p zero h = rw (ne_eqb _ _ e)
     space_over p (suc f) h = rw (ne_eqb _ _ e, le-ltb _ _ h)
@@ -88,25 +83,25 @@ module _ (v : View) (c n m : ℕ) where
         rw i (quiet q (d - suc q + f) (omega arith) (v q) refl k ∙ space_gap g h f)
 
     module _ (p : ℕ) (h : p < c) where
-      pub space_end : (f : ℕ) → c - p ≤ f → told_between (seen_of (v p)) ≡ 2 → s.Short m p ≡ space_from f v c p n m
+      pub space_end : (f : ℕ) → c - p ≤ f → seen_of (v p) ≡ seen.End → spaced_short m p ≡ space_from f v c p n m
       unfolding space_from read_at
       space_end zero j t = absurd (omega arith)
-      space_end (suc f) j t = rw (ne_eqb _ _ e, lt-ltb _ _ h, (shown_by (v p)).end t)
+      space_end (suc f) j t = rw (ne_eqb _ _ e, lt-ltb _ _ h, end_seen (v p) t)
 
-      pub space_mark : (f : ℕ) → c - p ≤ f → told_between (seen_of (v p)) ≡ 1 → space_from (f - 1) v c (p + 1) (n - 1) (m + 1) ≡ space_from f v c p n m
+      pub space_mark : (f : ℕ) → c - p ≤ f → seen_of (v p) ≡ seen.Mark → space_from (f - 1) v c (p + 1) (n - 1) (m + 1) ≡ space_from f v c p n m
       unfolding space_from read_at
       space_mark zero j t = absurd (omega arith)
       space_mark (suc f) j t =
           let i : suc f - 1 ≡ f = omega arith in
-          rw (ne_eqb _ _ e, lt-ltb _ _ h, (shown_by (v p)).mark t, i, add-one p)
+          rw (ne_eqb _ _ e, lt-ltb _ _ h, mark_seen (v p) t, i, add-one p)
 
       -- r is the answer from the next block on
-      pub space_other : (r : Spaced) → (told_between (seen_of (v p)) ≡ 2 → ⊥) → (told_between (seen_of (v p)) ≡ 1 → ⊥)
+      pub space_other : (r : Spaced) → (seen_of (v p) ≡ seen.End → ⊥) → (seen_of (v p) ≡ seen.Mark → ⊥)
           → ((g : ℕ) → c - (p + 1) ≤ g → r ≡ space_from g v c (p + 1) n m) → (f : ℕ) → c - p ≤ f → r ≡ space_from f v c p n m
       unfolding space_from read_at
       space_other r t u w zero j = absurd (omega arith)
       space_other r t u w (suc f) j =
-          let k = (shown_by (v p)).other t u in
+          let k = passed_by (v p) t u in
           let i = passed_on (v p) v c p false true false k in
           let o = read_onward v c p h i in
           let q = (read_at v c p).next in

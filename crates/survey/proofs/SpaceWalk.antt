@@ -1,4 +1,5 @@
--- Spacing and the walk agree: spacing answers the place after the nth Mark of the walk from p, or how many Marks that walk passes and where it ends.
+-- Spacing and the walk agree: spacing answers the place after the nth Mark of the walk from p, or how many Marks that
+-- walk passes and where it ends.
 -- Assumes nothing.
 use borrow.Author.Tests.{eq-eqb, ne_eqb, le-leb, lt-leb, lt-ltb, ltb-true}
 use mathlib.Core.Path.{◌≡◌, refl, sym, ap, ◌∙◌}
@@ -16,9 +17,8 @@ use Rattle.laws.proofs.OrderLaws.{lt_or_ge}
 use Rattle.block.specs.Content.{Content, shut, more, head, first, mark, eod}
 use Rattle.block.specs.Image.{View, view, capacity_of}
 use Rattle.survey.specs.declared.Spaced.{Spaced}
-use Rattle.survey.specs.declared.Spaced.TheVariants as s
 use Rattle.reader.specs.Walk.{Told, Record, Mark, End, Bad, Stray, Cut, mark_or_end, between, read_at, is_end, Visit, visit, walk_from}
-use Rattle.survey.specs.Spacing.{space_from, space_number, spacing}
+use Rattle.survey.specs.Spacing.{spaced_at, spaced_short, space_from, space_number, spacing}
 use Rattle.survey.specs.Marks.{marks_of, end_of, spaced_over}
 use Rattle.block.proofs.ImageSize.{asked}
 use Rattle.reader.proofs.WalkLaws.{read_onward, walk_from_over}
@@ -48,22 +48,22 @@ mark_next v c p e = next_between (v p) v c p e
 
 -- ---- over a list of marks
 module _ (p k m : ℕ) (marks : List ℕ) (end : ℕ) where
-  over_some : suc k ≤ length marks → spaced_over p (suc k) m marks end ≡ s.At (suc (get_or marks k 0))
+  over_some : suc k ≤ length marks → spaced_over p (suc k) m marks end ≡ spaced_at (suc (get_or marks k 0))
   unfolding spaced_over
   over_some h =
       let i : suc k - 1 ≡ k = omega arith in
-      rw (ne_eqb (suc k) 0 (omega arith), le-leb (suc k) (length marks) h) (ap (λ (j : ℕ). s.At (suc (get_or marks j 0))) i)
+      rw (ne_eqb (suc k) 0 (omega arith), le-leb (suc k) (length marks) h) (ap (λ (j : ℕ). spaced_at (suc (get_or marks j 0))) i)
 
-  over_few : length marks < suc k → spaced_over p (suc k) m marks end ≡ s.Short (m + length marks) end
+  over_few : length marks < suc k → spaced_over p (suc k) m marks end ≡ spaced_short (m + length marks) end
   unfolding spaced_over
   over_few h = rw (ne_eqb (suc k) 0 (omega arith), lt-leb (suc k) (length marks) h)
 
-over_none : (p m : ℕ) (marks : List ℕ) (end : ℕ) → s.At p ≡ spaced_over p 0 m marks end
+over_none : (p m : ℕ) (marks : List ℕ) (end : ℕ) → spaced_at p ≡ spaced_over p 0 m marks end
 unfolding spaced_over
 over_none p m marks end = refl
 
-over_end : (p k m end : ℕ) → s.Short m end ≡ spaced_over p (suc k) m [] end
-over_end p k m end = ap (λ (i : ℕ). s.Short i end) (sym (add-zero m)) ∙ sym (over_few p k m [] end (omega arith))
+over_end : (p k m end : ℕ) → spaced_short m end ≡ spaced_over p (suc k) m [] end
+over_end p k m end = ap (λ (i : ℕ). spaced_short i end) (sym (add-zero m)) ∙ sym (over_few p k m [] end (omega arith))
 
 -- where marks are wanted, it is the same from any place
 over_from : (p q k m : ℕ) (marks : List ℕ) (end : ℕ) → spaced_over q (suc k) m marks end ≡ spaced_over p (suc k) m marks end
@@ -76,7 +76,7 @@ over_mark : (p k m : ℕ) (marks : List ℕ) (end : ℕ) → spaced_over (suc p)
 over_mark p zero m marks end = sym (over_none (suc p) (m + 1) marks end) ∙ sym (over_some p 0 m (p ∷ marks) end (omega arith))
 over_mark p (suc k) m marks end =
     let i : m + 1 + length marks ≡ m + suc (length marks) = omega arith in
-    ⊎_elim (λ l. over_few (suc p) k (m + 1) marks end l ∙ ap (λ (j : ℕ). s.Short j end) i ∙ sym (over_few p (suc k) m (p ∷ marks) end (omega arith)))
+    ⊎_elim (λ l. over_few (suc p) k (m + 1) marks end l ∙ ap (λ (j : ℕ). spaced_short j end) i ∙ sym (over_few p (suc k) m (p ∷ marks) end (omega arith)))
     (λ l. over_some (suc p) k (m + 1) marks end l ∙ sym (over_some p (suc k) m (p ∷ marks) end (omega arith)))
     (lt_or_ge (length marks) (suc k))
 
@@ -88,7 +88,7 @@ Agree f v c p n m = space_from f v c p n m ≡ spaced_over p n m (marks_of (walk
 module _ (c p q k m : ℕ) (w : List Visit) (on by : Spaced) where
   agree_by : (t : Told) → (t ≡ Mark → q ≡ suc p)
       → (is_end t ≡ false → (on ≡ spaced_over q k (m + 1) (marks_of w) (end_of c w)) × (by ≡ spaced_over q (suc k) m (marks_of w) (end_of c w)))
-      → mark_or_end t on (s.Short m p) by ≡ spaced_over p (suc k) m (marks_of (visit p t ∷ pick (is_end t) [] w)) (end_of c (visit p t ∷ pick (is_end t) [] w))
+      → mark_or_end t on (spaced_short m p) by ≡ spaced_over p (suc k) m (marks_of (visit p t ∷ pick (is_end t) [] w)) (end_of c (visit p t ∷ pick (is_end t) [] w))
   unfolding marks_of end_of
   agree_by (Record x) e h = (h refl).1 ∙ over_from p q k m (marks_of w) (end_of c w)
   agree_by Mark e h = (h refl).0 ∙ ap (λ (a : ℕ). spaced_over a k (m + 1) (marks_of w) (end_of c w)) (e refl) ∙ over_mark p k m (marks_of w) (end_of c w)
@@ -105,7 +105,7 @@ unfolding marks_of end_of
 agree_over f v c p k m l h =
     let e : p ≡ c = omega arith in
     sym (space_over v c (suc k) m (omega arith) p f l)
-    ∙ ap (s.Short m) e ∙ over_end p k m c
+    ∙ ap (spaced_short m) e ∙ over_end p k m c
     ∙ ap (λ (w : List Visit). spaced_over p (suc k) m (marks_of w) (end_of c w)) (sym (walk_from_over f v c p l))
 
 pub space_walk : (f : ℕ) (v : View) (c p n m : ℕ) → p ≤ c → c - p ≤ f → Agree f v c p n m

@@ -9,10 +9,10 @@ use Rattle.survey.proofs.space.Kinds as spacing-kinds
 use Rattle.survey.proofs.report.Reads as report
 use Rattle.survey.proofs.report.Kinds as report-kinds
 
-pub space_unique : (κs : Lfts 2) (a : Dens κs spacing-kinds.ps) (r₁ r₂ : (res_t spacing-kinds.r κs).Denot) (s₁ s₂ : AtExit (ended_of 2 spacing-kinds.ps spacing-kinds.r) κs)
+pub space_unique : (κs : Lfts 1) (a : Dens κs spacing-kinds.ps) (r₁ r₂ : (res_t spacing-kinds.r κs).Denot) (s₁ s₂ : AtExit (ended_of 1 spacing-kinds.ps spacing-kinds.r) κs)
     → spacing.Post κs a r₁ s₁ → spacing.Post κs a r₂ s₂ → r₁ ≡ r₂
 space_unique κs a r₁ r₂ s₁ s₂ p q = p.says ∙ sym q.says
 
-pub report_unique : (κs : Lfts 2) (a : Dens κs report-kinds.ps) (r₁ r₂ : (res_t report-kinds.r κs).Denot) (s₁ s₂ : AtExit (ended_of 2 report-kinds.ps report-kinds.r) κs)
+pub report_unique : (κs : Lfts 1) (a : Dens κs report-kinds.ps) (r₁ r₂ : (res_t report-kinds.r κs).Denot) (s₁ s₂ : AtExit (ended_of 1 report-kinds.ps report-kinds.r) κs)
     → report.Post κs a r₁ s₁ → report.Post κs a r₂ s₂ → r₁ ≡ r₂
 report_unique κs a r₁ r₂ s₁ s₂ p q = p ∙ sym q

@@ -1,9 +1,10 @@
--- What a walk's visits say (FORMAT, "Reading"): its marks and its end, the answer that spacing gives by them, and how many there are of each outcome.
+-- What a walk's visits say (FORMAT, "Reading"): its marks and its end, the answer that spacing gives by them, and how
+-- many there are of each outcome.
 use Rattle.std.specs.Prelude.{List, [], ◌∷◌, ℕ, suc, ◌+◌, ◌-◌, eqb, leb, length, get_or}
 use Rattle.laws.specs.Choose.{pick}
 use Rattle.survey.specs.declared.Spaced.{Spaced}
-use Rattle.survey.specs.declared.Spaced.TheVariants as s
 use Rattle.survey.specs.Report.{place_of}
+use Rattle.survey.specs.Spacing.{spaced_at, spaced_short}
 use Rattle.reader.specs.Walk.{mark_or_end, Visit}
 
 -- the places of the visits that say Mark, in their order
@@ -19,7 +20,7 @@ end_of c (x ∷ xs) = mark_or_end x.says (end_of c xs) x.at (end_of c xs)
 -- over n of these marks from p on, with m passed before: p itself; the place after the nth; or all of them and the end
 unfoldable pub spaced_over : ℕ → ℕ → ℕ → List ℕ → ℕ → Spaced
 spaced_over p n m marks end =
-    pick (eqb n 0) (s.At p) (pick (leb n (length marks)) (s.At (suc (get_or marks (n - 1) 0))) (s.Short (m + length marks) end))
+    pick (eqb n 0) (spaced_at p) (pick (leb n (length marks)) (spaced_at (suc (get_or marks (n - 1) 0))) (spaced_short (m + length marks) end))
 
 -- how many visits say the outcome at place k
 unfoldable pub how_many : ℕ → List Visit → ℕ

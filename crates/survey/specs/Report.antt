@@ -1,6 +1,7 @@
 -- The report (FORMAT, "Reading"; NUMBERS): the answers of the walk, counted by outcome.
-use Rattle.std.specs.Prelude.{List, [], ◌∷◌, ℕ, ◌+◌, eqb, get_or, set, replicate}
-use Rattle.laws.specs.Choose.{pick}
+use Rattle.std.specs.Prelude.{List, [], ◌∷◌, ℕ, ◌+◌, get_or, set, replicate, Result, Ok, Err}
+use Rattle.numbers.specs.declared.Refusal.{Refusal}
+use Rattle.numbers.specs.Refusals.{answered}
 use Rattle.block.specs.Image.{capacity_of, image_then_key, view}
 use Rattle.reader.specs.Walk.{Told, Record, Mark, End, Bad, Stray, Cut, Visit, walk}
 use Rattle.survey.specs.declared.Tally.{Tally}
@@ -17,10 +18,9 @@ place_of Bad = 3
 place_of Stray = 4
 place_of (Cut q) = 5
 
-abbrev pub tally_of : ℕ → List ℕ → Tally
-tally_of n t =
+abbrev pub tally_of : List ℕ → Tally
+tally_of t =
     record {
-      number = n;
       records = get_or t 0 0;
       marks = get_or t 1 0;
       ends = get_or t 2 0;
@@ -31,6 +31,11 @@ tally_of n t =
 
 abbrev pub uncounted : List ℕ
 uncounted = replicate outcomes 0
+
+-- the counts that an answer tells: none where it was refused
+abbrev pub counts_of : Result Tally Refusal → Tally
+counts_of (Ok t) = t
+counts_of (Err e) = tally_of uncounted
 
 -- one more at place k
 abbrev pub counted : ℕ → List ℕ → List ℕ
@@ -44,7 +49,6 @@ tallied (x ∷ xs) t = tallied xs (counted (place_of x.says) t)
 unfoldable pub report_number : List ℕ → List ℕ → ℕ
 report_number key image = image_then_key key image 0
 
-unfoldable pub report_of : List ℕ → ℕ → ℕ → List ℕ → Tally
+unfoldable pub report_of : List ℕ → ℕ → ℕ → List ℕ → Result Tally Refusal
 report_of key id recording image =
-    tally_of (report_number key image)
-    (pick (eqb (report_number key image) 0) (tallied (walk (view key id recording image) (capacity_of image)) uncounted) uncounted)
+    answered (report_number key image) (tally_of (tallied (walk (view key id recording image) (capacity_of image)) uncounted))

@@ -1,5 +1,6 @@
--- Cited by private contracts alone: what survey's own steps promise of one block, and of the walk from a place on, counted.
-use Rattle.std.specs.Prelude.{◌≡◌, true, false, List, ℕ, zero, suc, ◌+◌, ◌*◌, ◌≤◌, length, get_or}
+-- Cited by private contracts alone: what survey's own steps promise of one block, and of the walk from a place on,
+-- counted.
+use Rattle.std.specs.Prelude.{true, false, List, [], ◌∷◌, ℕ, zero, suc, ◌+◌, Option, Some, None}
 use Rattle.laws.specs.Choose.{pick}
 use Rattle.block.specs.Image.{View}
 use Rattle.block.specs.Calls.{seen_of}
@@ -7,31 +8,43 @@ use Rattle.block.specs.declared.Seen.{Seen}
 use Rattle.block.specs.declared.Seen.TheVariants as seen
 use Rattle.reader.specs.Walk.{Answer, is_end, walk_from}
 use Rattle.survey.specs.declared.Step.{Step}
+use Rattle.survey.specs.declared.Told.{Told}
+use Rattle.survey.specs.declared.Told.TheVariants as told
+use Rattle.survey.specs.declared.Tally.{Tally}
 use Rattle.survey.specs.Report.{place_of, counted, tallied}
 
--- ---- what is lent: a key, an image with c blocks at least, a block's bytes to open it into
-abbrev pub Lent : List ℕ → List ℕ → List ℕ → ℕ → Type 0
-Lent key image scratch c = (length key ≡ 24) × (c * 512 ≤ length image) × (c ≤ 128) × (length scratch ≡ 488)
+-- ---- the counts as a list, how many they are, and the place of what is told among them
+abbrev pub list_of : Tally → List ℕ
+list_of t = t.records ∷ t.marks ∷ t.ends ∷ t.bads ∷ t.strays ∷ t.cuts ∷ []
 
--- ---- a block between records: the place of what is told of it, or 255 where nothing is told yet, since its record goes on
-abbrev pub told_between : Seen → ℕ
-told_between seen.Shut = 3
-told_between (seen.First true n) = 0
-told_between (seen.First false n) = 255
-told_between (seen.More l n) = 4
-told_between seen.Mark = 1
-told_between seen.End = 2
-told_between (seen.Refused n) = 3
+abbrev pub total : Tally → ℕ
+total t = t.records + t.marks + t.ends + t.bads + t.strays + t.cuts
+
+abbrev pub place : Told → ℕ
+place told.Record = 0
+place told.Mark = 1
+place told.End = 2
+place told.Bad = 3
+place told.Stray = 4
+place told.Cut = 5
+
+-- ---- a block between records: what is told of it, or nothing yet, since its record goes on
+abbrev pub told_between : Seen → Option Told
+told_between seen.Shut = Some told.Bad
+told_between (seen.First true n) = Some told.Record
+told_between (seen.First false n) = None
+told_between (seen.More l n) = Some told.Stray
+told_between seen.Mark = Some told.Mark
+told_between seen.End = Some told.End
 
 -- ---- a block inside a record: the same, and how many blocks on the walk goes on
-abbrev pub told_inside : Seen → ℕ
-told_inside seen.Shut = 5
-told_inside (seen.First l n) = 5
-told_inside (seen.More true n) = 0
-told_inside (seen.More false n) = 255
-told_inside seen.Mark = 5
-told_inside seen.End = 5
-told_inside (seen.Refused n) = 5
+abbrev pub told_inside : Seen → Option Told
+told_inside seen.Shut = Some told.Cut
+told_inside (seen.First l n) = Some told.Cut
+told_inside (seen.More true n) = Some told.Record
+told_inside (seen.More false n) = None
+told_inside seen.Mark = Some told.Cut
+told_inside seen.End = Some told.Cut
 
 abbrev pub passed_inside : Seen → ℕ
 passed_inside seen.Shut = 1
@@ -39,21 +52,16 @@ passed_inside (seen.First l n) = 0
 passed_inside (seen.More l n) = 1
 passed_inside seen.Mark = 0
 passed_inside seen.End = 0
-passed_inside (seen.Refused n) = 1
 
 -- where `room` more blocks may belong to the record
-abbrev pub step_to : ℕ → ℕ → Step
+abbrev pub step_to : Option Told → ℕ → Step
 step_to t n = record { told = t; next = n }
 
 unfoldable pub step_by : ℕ → View → ℕ → Step
-step_by zero v q = step_to 5 q
+step_by zero v q = step_to (Some told.Cut) q
 step_by (suc room) v q = step_to (told_inside (seen_of (v q))) (q + passed_inside (seen_of (v q)))
 
--- ---- no count is above p
-abbrev pub Few : List ℕ → ℕ → Type 0
-Few t p = (k : ℕ) → get_or t k 0 ≤ p
-
--- the walk from p on, counted into t
+-- ---- the walk from p on, counted into t
 unfoldable pub count_on : ℕ → View → ℕ → ℕ → List ℕ → List ℕ
 count_on f v c p t = tallied (walk_from f v c p) t
 

@@ -1,17 +1,17 @@
 // The paper's own tables and vectors: 1.1 by its miniboxes, 1.3.1 round by round, 1.3.2 sealed and traced.
-use crate::show;
+// Each state here has 64 bytes, and no part is above a limit, so none of these calls is refused.
+use crate::show::Buffer;
+use numbers::{DOMAIN_DATA, DOMAIN_KEY, DOMAIN_MESSAGE, DOMAIN_NONCE, Refusal};
+use std::io;
 
-fn show_table<P: Print>(rt: &P) {
-    for k in 0usize..256 {
-        show_entry(rt, (k % 256) as u8);
+fn show_table<P: Print>(rt: &P) -> io::Result<()> {
+    for k in 0u8..=255 {
+        print!(rt; "{:02X}", permutation::minibox(k))?;
+        if k % 16 == 15 {
+            println!(rt)?;
+        }
     }
-}
-
-fn show_entry<P: Print>(rt: &P, k: u8) {
-    print::hex_byte(rt, permutation::minibox(k));
-    if k % 16 == 15 {
-        print::line_end(rt);
-    }
+    Ok(())
 }
 
 // ---- 1.3.1: twelve rounds forward, and then back.
@@ -31,47 +31,19 @@ fn constant(r: u8) -> [u8; 64] {
     key
 }
 
-fn show_state<P: Print>(rt: &P, name: &[u8], n: u8, state: &[u8; 64]) {
-    print::named(rt, name, n as u64);
-    show::buffer(rt, b" ", state);
-}
-
-// The rounds that lie behind the state after k steps.
-fn rounds(k: u8) -> u8 {
-    if k < 12 { k } else { 24 - k % 25 }
-}
-
-fn step(state: &mut [u8; 64], k: u8) {
-    if k < 12 {
-        permutation::round(state, &constant(k));
-    } else {
-        permutation::round_back(state, &constant(23 - k % 24));
-    }
-}
-
-fn show_step<P: Print>(rt: &P, state: &mut [u8; 64], k: u8) {
-    step(state, k % 24);
-    show_state(rt, b"x", rounds(k % 24 + 1), state);
-}
-
-// Twelve steps from this one on.
-fn show_steps<P: Print>(rt: &P, state: &mut [u8; 64], from: u8) {
-    for k in 0u8..12 {
-        show_step(rt, state, from % 24 + k);
-    }
-}
-
-fn show_first<P: Print>(rt: &P, title: &[u8], n: u8, state: &[u8; 64]) {
-    print::say(rt, title);
-    show_state(rt, b"x", n, state);
-}
-
-fn show_rounds<P: Print>(rt: &P) {
+fn show_rounds<P: Print>(rt: &P) -> io::Result<()> {
     let mut state = X0;
-    show_first(rt, b"# 1.3.1 forward\n", 0, &state);
-    show_steps(rt, &mut state, 0);
-    show_first(rt, b"# 1.3.1 back\n", 12, &state);
-    show_steps(rt, &mut state, 12);
+    println!(rt; "# 1.3.1 forward\nx0 {}", Buffer(&state))?;
+    for r in 0u8..12 {
+        let _ = permutation::round(&mut state, &constant(r));
+        println!(rt; "x{} {}", r + 1, Buffer(&state))?;
+    }
+    println!(rt; "# 1.3.1 back\nx12 {}", Buffer(&state))?;
+    for r in (0u8..12).rev() {
+        let _ = permutation::round_back(&mut state, &constant(r));
+        println!(rt; "x{r} {}", Buffer(&state))?;
+    }
+    Ok(())
 }
 
 // ---- 1.3.2: what is sealed, and the trace found from its end, by undoing π and what was added before it.
@@ -83,62 +55,49 @@ const DATA: [u8; 32] = *b"AAD Test Vector Exact Block 32 B";
 
 const MESSAGE: [u8; 38] = *b"2 Block Test Vector for stribob192r2d2";
 
-fn show_sealed<P: Print>(rt: &P, key: &[u8], nonce: &[u8], data: &[u8], message: &[u8]) {
+fn show_sealed<P: Print>(rt: &P) -> io::Result<()> {
     let mut sealed = [0u8; 54];
-    aead::seal(key, nonce, data, message, &mut sealed);
-    show::buffer(rt, b"# 1.3.2 sealed\n", &sealed);
+    let _ = aead::seal(&KEY, &NONCE, &DATA, &MESSAGE, &mut sealed);
+    println!(rt; "# 1.3.2 sealed\n{}", Buffer(&sealed))
 }
 
-// What step n adds: its bytes, 01 behind them where it closes an operation, and at 32 the domain byte and what closes.
-fn added(n: u8) -> [u8; 33] {
-    match n {
-        0 => *b"192-bit Secret Key value\x01\0\0\0\0\0\0\0\x12",
-        1 => *b"Nonces Used Once\x01\0\0\0\0\0\0\0\0\0\0\0\0\0\0\0\x22",
-        2 => *b"AAD Test Vector Exact Block 32 B\x43",
-        3 => *b"2 Block Test Vector for stribob1\x50",
-        _ => *b"92r2d2\x01\0\0\0\0\0\0\0\0\0\0\0\0\0\0\0\0\0\0\0\0\0\0\0\0\0\x52",
-    }
-}
+// What each step adds: its bytes, 01 behind them where it closes an operation, and at 32 the domain byte and what
+// closes.
+const ADDED: [[u8; 33]; 5] = [
+    *b"192-bit Secret Key value\x01\0\0\0\0\0\0\0\x12",
+    *b"Nonces Used Once\x01\0\0\0\0\0\0\0\0\0\0\0\0\0\0\0\x22",
+    *b"AAD Test Vector Exact Block 32 B\x43",
+    *b"2 Block Test Vector for stribob1\x50",
+    *b"92r2d2\x01\0\0\0\0\0\0\0\0\0\0\0\0\0\0\0\0\0\0\0\0\0\0\0\0\0\x52",
+];
 
-// From π's output at step n to that of the step before.
-fn step_back<P: Print>(rt: &P, state: &mut [u8; 64], n: u8) {
-    show_state(rt, b"out ", n, state);
-    permutation::permute_back(state);
-    show_state(rt, b"Block ", n, state);
-    buffer::add(state, &added(n));
-}
-
-fn steps_back<P: Print>(rt: &P, state: &mut [u8; 64]) {
-    for k in 0u8..5 {
-        step_back(rt, state, 4 - k);
-    }
-}
-
-fn put_all(state: &mut [u8], key: &[u8], nonce: &[u8], data: &[u8]) {
-    sponge::put(state, key, 0x10);
-    sponge::put(state, nonce, 0x20);
-    sponge::put(state, data, 0x40);
-}
-
-// The state that sealing leaves.
-fn sealed_state(key: &[u8], nonce: &[u8], data: &[u8], message: &[u8]) -> [u8; 64] {
-    let mut state = [0u8; 64];
+// What sealing leaves in the state.
+fn sealed(state: &mut [u8; 64]) -> Result<(), Refusal> {
     let mut cipher = [0u8; 38];
-    put_all(&mut state, key, nonce, data);
-    sponge::enc(&mut state, message, &mut cipher, 0x50);
-    state
+    sponge::put(state, &KEY, DOMAIN_KEY)?;
+    sponge::put(state, &NONCE, DOMAIN_NONCE)?;
+    sponge::put(state, &DATA, DOMAIN_DATA)?;
+    sponge::enc(state, &MESSAGE, &mut cipher, DOMAIN_MESSAGE)
 }
 
-fn show_sealing<P: Print>(rt: &P, key: &[u8], nonce: &[u8], data: &[u8], message: &[u8]) {
-    show_sealed(rt, key, nonce, data, message);
-    print::say(rt, b"# 1.3.2 trace, from its end\n");
-    let mut state = sealed_state(key, nonce, data, message);
-    steps_back(rt, &mut state);
+// From π's output at each step to that of the step before.
+fn show_trace<P: Print>(rt: &P) -> io::Result<()> {
+    let mut state = [0u8; 64];
+    let _ = sealed(&mut state);
+    println!(rt; "# 1.3.2 trace, from its end")?;
+    for (n, added) in ADDED.iter().enumerate().rev() {
+        println!(rt; "out {n} {}", Buffer(&state))?;
+        let _ = permutation::permute_back(&mut state);
+        println!(rt; "Block {n} {}", Buffer(&state))?;
+        buffer::add(&mut state, added);
+    }
+    Ok(())
 }
 
-pub fn all<P: Print>(rt: &P) {
-    print::say(rt, b"# table 1.1 by the miniboxes\n");
-    show_table(rt);
-    show_rounds(rt);
-    show_sealing(rt, &KEY, &NONCE, &DATA, &MESSAGE);
+pub fn all<P: Print>(rt: &P) -> io::Result<()> {
+    println!(rt; "# table 1.1 by the miniboxes")?;
+    show_table(rt)?;
+    show_rounds(rt)?;
+    show_sealed(rt)?;
+    show_trace(rt)
 }

@@ -1,4 +1,5 @@
--- What a call alters in the image: an item's own blocks, which stand there sealed, and no others; a closing one block; refused, refusedState.
+-- What a call alters in the image: an item its own blocks, which stand there sealed, and no others; a closing one
+-- block; refused, none.
 -- Assumes nothing.
 use mathlib.Core.Path.{◌≡◌, refl, sym, ◌∙◌}
 use mathlib.Core.List.{List, [], ◌∷◌}
@@ -13,7 +14,8 @@ use Rattle.block.specs.Image.{block_at}
 use Rattle.block.proofs.ImageLaws.{length_lay, lay_else, lay_at}
 use Rattle.writer.specs.declared.WriterState.{WriterState}
 use Rattle.writer.specs.Items.{Item, size, blocks}
-use Rattle.writer.specs.Writing.{reply_number, item_number, close_number, taken, ended, write, close}
+use Rattle.numbers.specs.Refusals.{number_of}
+use Rattle.writer.specs.Writing.{item_number, close_number, taken, ended, write, close}
 use Rattle.writer.proofs.Pieces.{length_blocks}
 use Rattle.writer.proofs.Ready.{facts, item_fits, close_ready}
 use Rattle.writer.proofs.Judged.{judged_keeps}
@@ -31,13 +33,13 @@ closing_within s key image e = let f = facts (close_ready s key image e) in omeg
 
 module _ (s : WriterState) (key image : List ℕ) where
   -- ---- what is taken stands there, sealed for its place
-  pub writes_its_blocks : (i : Item) (j : ℕ) → reply_number (write s key image i).reply ≡ 0 → j < size i
+  pub writes_its_blocks : (i : Item) (j : ℕ) → number_of (write s key image i).reply ≡ 0 → j < size i
       → block_at (write s key image i).image (s.position + j) ≡ seal_block key s.id s.recording (s.position + j) (get_or (blocks i) j shut)
   writes_its_blocks i j e l =
       let w = item_within s key image i (sym (write_number s key image i) ∙ e) in
       rw (write_when s key image i 0 e) (lay_at key s.id s.recording (blocks i) image s.position j w (omega (arith, length_blocks i)))
 
-  pub closing_writes_eod : reply_number (close s key image).reply ≡ 0 → block_at (close s key image).image s.position ≡ seal_block key s.id s.recording s.position (head eod)
+  pub closing_writes_eod : number_of (close s key image).reply ≡ 0 → block_at (close s key image).image s.position ≡ seal_block key s.id s.recording s.position (head eod)
   closing_writes_eod e =
       let w = closing_within s key image (sym (close_number_lem s key image) ∙ e) in
       rw (close_when s key image 0 e) (rw add-zero at (lay_at key s.id s.recording (head eod ∷ []) image s.position 0 w (omega arith)))

@@ -10,7 +10,9 @@ use native.Mathlib.Numerals.{add-one}
 use native.Mathlib.Omega.{arith}
 use lib.Dec.{eqb, eqb-zero-suc, eqb-suc-zero, eqb-suc-suc}
 use lib.ListN.{length, take, drop, length-drop, drop_of_length-le}
-use lib.Seq.{drop-drop, take_all, length-take-le}
+use lib.Seq.{drop-drop, length-take-le}
+use Rattle.std.specs.Prelude.{min}
+use Rattle.std.proofs.lemmas.List.{take_min}
 use Rattle.laws.specs.Choose.{pick}
 use Rattle.block.specs.Content.{Content, more, head, first, flag}
 use Rattle.block.specs.declared.Kind.{Kind}
@@ -41,7 +43,7 @@ length_blocks (rec b) = length_recorded (pieces (blocks_for (length b)) b) ∙ l
 length_blocks fmark = refl
 
 -- ---- what stands at i
--- refusedState follows the last
+-- none follows the last
 none_follows : (k : ℕ) (b : List ℕ) → is_nil (pieces k b) ≡ eqb 1 (suc k)
 unfolding pieces
 none_follows zero b = refl
@@ -94,40 +96,24 @@ pub record Cut (n k i to : ℕ) : Type 0 where
   pub few : to - i * 488 ≤ 488
   pub fit : used_ok (flag (eqb (i + 1) k)) (to - i * 488) ≡ true
 
-pub cut : (n k i to : ℕ) → k ≡ blocks_for n → i < k → to ≡ pick (eqb (i + 1) k) n (i * 488 + 488) → Cut n k i to
+pub cut : (n k i to : ℕ) → k ≡ blocks_for n → i < k → to ≡ min n (i * 488 + 488) → Cut n k i to
 unfolding blocks_for used_ok
 cut n k i to q h e = either (eqb (i + 1) k) refl
   where
     either : (t : Bool) → eqb (i + 1) k ≡ t → Cut n k i to
     either true f =
-        let g : to ≡ n = rw f at e in
         let m : i + 1 ≡ k = eqb-true (i + 1) k f in
         let w : to - i * 488 ≤ 488 = omega arith in
         record { from_to = omega arith; to_end = omega arith; few = w; fit = rw (f, le-leb 1 (to - i * 488) (omega arith), le-leb (to - i * 488) 488 w) }
     either false f =
-        let g : to ≡ i * 488 + 488 = rw f at e in
         let m : i + 1 < k = omega (arith, eqb-false (i + 1) k f) in
         record { from_to = omega arith; to_end = omega arith; few = omega arith; fit = rw f (eq-eqb (to - i * 488) 488 (omega arith)) }
 
-cut_bytes : (b : List ℕ) (k i to : ℕ) → k ≡ blocks_for (length b) → i < k → to ≡ pick (eqb (i + 1) k) (length b) (i * 488 + 488)
-    → take (to - i * 488) (drop (i * 488) b) ≡ take 488 (drop (488 * i) b)
-cut_bytes b k i to q h e =
+cut_bytes : (b : List ℕ) (i to : ℕ) → to ≡ min (length b) (i * 488 + 488) → take (to - i * 488) (drop (i * 488) b) ≡ take 488 (drop (488 * i) b)
+cut_bytes b i to e =
+    let n : to - i * 488 ≡ min 488 (length (drop (i * 488) b)) = omega (arith, length-drop (i * 488) b) in
     let z : i * 488 ≡ 488 * i = omega arith in
-    rw z (either (eqb (i + 1) k) refl)
-  where
-    c : Cut (length b) k i to
-    c = cut (length b) k i to q h e
-
-    either : (t : Bool) → eqb (i + 1) k ≡ t → take (to - 488 * i) (drop (488 * i) b) ≡ take 488 (drop (488 * i) b)
-    either true f =
-        let g : to ≡ length b = rw f at e in
-        let n : length (drop (488 * i) b) ≤ to - 488 * i = simp length-drop (omega arith) in
-        let m : length (drop (488 * i) b) ≤ 488 = simp length-drop (omega (arith, c.few)) in
-        take_all (to - 488 * i) (drop (488 * i) b) n ∙ sym (take_all 488 (drop (488 * i) b) m)
-    either false f =
-        let g : to ≡ i * 488 + 488 = rw f at e in
-        let n : to - 488 * i ≡ 488 = omega arith in
-        ap (λ (m : ℕ). take m (drop (488 * i) b)) n
+    ap (λ (m : ℕ). take m (drop (i * 488) b)) n ∙ take_min 488 (drop (i * 488) b) ∙ ap (λ (m : ℕ). take 488 (drop m b)) z
 
 abbrev pub kind_at : Bool → Bool → Kind
 kind_at begins last = pick begins (kind.First last) (kind.More last)
@@ -140,7 +126,7 @@ piece_for : (begins last : Bool) (b : List ℕ) → content_for (kind_at begins 
 piece_for true last b = refl
 piece_for false last b = refl
 
-module _ (b : List ℕ) (k i to : ℕ) (o : Kind) (q : k ≡ blocks_for (length b)) (h : i < k) (e : to ≡ pick (eqb (i + 1) k) (length b) (i * 488 + 488))
+module _ (b : List ℕ) (k i to : ℕ) (o : Kind) (q : k ≡ blocks_for (length b)) (h : i < k) (e : to ≡ min (length b) (i * 488 + 488))
     (f : o ≡ kind_at (eqb i 0) (eqb (i + 1) k)) where
   pub cut_fits : fits_kind o (length (take (to - i * 488) (drop (i * 488) b))) ≡ true
   cut_fits =
@@ -150,4 +136,4 @@ module _ (b : List ℕ) (k i to : ℕ) (o : Kind) (q : k ≡ blocks_for (length 
 
   pub cut_is_piece : content_for o (take (to - i * 488) (drop (i * 488) b)) ≡ piece_at b k i
   unfolding piece_at
-  cut_is_piece = rw (f, cut_bytes b k i to q h e, add-one) (piece_for (eqb i 0) (eqb (suc i) k) (take 488 (drop (488 * i) b)))
+  cut_is_piece = rw (f, cut_bytes b i to e, add-one) (piece_for (eqb i 0) (eqb (suc i) k) (take 488 (drop (488 * i) b)))

@@ -10,11 +10,12 @@ use lib.Dec.{eqb, leb, ltb}
 use lib.ListN.{length}
 use Rattle.laws.specs.Choose.{first_of}
 use Rattle.laws.proofs.ChooseLaws.{both_left, both_right, no_refusal}
-use Rattle.block.specs.Image.{capacity_of, image_then_key}
-use Rattle.block.proofs.ImageSize.{Asked, image_sized, asks_refused, asks_rest, asked}
+use Rattle.numbers.proofs.RefusalLaws.{first_named}
+use Rattle.block.specs.Image.{capacity_of, image_ok, image_then_key}
+use Rattle.block.proofs.ImageSize.{Asked, image_sized, asks_refused, asks_rest, asked, asks_named}
 use Rattle.writer.specs.declared.WriterState.{WriterState}
 use Rattle.writer.specs.Items.{Item, rec, fmark, blocks_for, size}
-use Rattle.writer.specs.Writing.{zone_ok, place_ok, marks_ok, lawful, length_ok, room, call_number, item_number, close_number}
+use Rattle.writer.specs.Writing.{zone_ok, place_ok, marks_ok, lawful, length_ok, room, start_number, call_number, item_number, close_number}
 
 -- a call that finds image, key and state as they should be, and the recording open
 pub record Ready (s : WriterState) (key image : List ℕ) : Type 0 where
@@ -93,7 +94,7 @@ facts {s} {key} {image} r =
       marks_low = l.marks_low;
     }
 
--- ---- the number: a refusal is the same whatever comes after, and with refusedState the rest decides
+-- ---- the number: a refusal is the same whatever comes after, and with none the rest decides
 state_refused : (a b : Bool) (rest : ℕ) → (first_of a 8 (first_of b 6 0) ≡ 0 → ⊥) → first_of a 8 (first_of b 6 rest) ≡ first_of a 8 (first_of b 6 0)
 state_refused false b rest n = refl
 state_refused true false rest n = refl
@@ -126,6 +127,13 @@ pub close_ready : (s : WriterState) (key image : List ℕ) → close_number s ke
 unfolding close_number
 close_ready s key image e = (call_ready s key image 0 e).0
 
+-- what `allowed` says, as the calls take it up
+pub allowed_ready : {s : WriterState} {key image : List ℕ} → 0 ≡ close_number s key image → Ready s key image
+allowed_ready e = close_ready _ _ _ (sym e)
+
+pub allowed_facts : {s : WriterState} {image : List ℕ} (key : List ℕ) → 0 ≡ close_number s key image → Facts s image
+allowed_facts key e = facts (allowed_ready e)
+
 pub item_refused : (s : WriterState) (key image : List ℕ) (i : Item) → (close_number s key image ≡ 0 → ⊥) → item_number s key image i ≡ close_number s key image
 unfolding item_number
 item_refused s key image i n = call_refused s key image _ n
@@ -134,6 +142,27 @@ pub item_asks : {s : WriterState} {key image : List ℕ} → Ready s key image �
     → item_number s key image i ≡ first_of (length_ok i) 4 (first_of (room s.capacity s.position (size i)) 5 0)
 unfolding item_number
 item_asks r i = call_asks r _
+
+-- each number is 0 or that of a cause
+call_named : (s : WriterState) (key image : List ℕ) (rest : ℕ) → rest ≤ 9 → call_number s key image rest ≤ 9
+unfolding call_number
+call_named s key image rest h =
+    asks_named key image _ (first_named (lawful s (capacity_of image)) 8 _ (omega arith) (first_named (not s.closed) 6 rest (omega arith) h))
+
+pub item_named : (s : WriterState) (key image : List ℕ) (i : Item) → item_number s key image i ≤ 9
+unfolding item_number
+item_named s key image i =
+    call_named s key image _
+    (first_named (length_ok i) 4 _ (omega arith) (first_named (room s.capacity s.position (size i)) 5 0 (omega arith) (omega arith)))
+
+pub close_named : (s : WriterState) (key image : List ℕ) → close_number s key image ≤ 9
+unfolding close_number
+close_named s key image = call_named s key image 0 (omega arith)
+
+pub start_named : (image : List ℕ) (e : ℕ) → start_number image e ≤ 9
+unfolding start_number
+start_named image e =
+    first_named (image_ok image) 1 _ (omega arith) (first_named (zone_ok (capacity_of image) e) 3 0 (omega arith) (omega arith))
 
 -- an item that is not refused
 pub record Fits (s : WriterState) (key image : List ℕ) (i : Item) : Type 0 where

@@ -1,5 +1,5 @@
--- `writer::start`, `record`, `mark` and `close` promise one result: two that meet the promise at the same arguments are equal, and so is what
--- they leave in the image.
+-- `writer::start`, `record`, `mark` and `close` promise one result: two that meet the promise at the same arguments
+-- are equal, and so is what they leave in the image.
 -- Assumes nothing.
 use mathlib.Core.Path.{◌≡◌, sym, ◌∙◌}
 use contract.Lifetimes.{Lfts}

@@ -9,9 +9,9 @@ use lib.Dec.{ltb}
 use Rattle.laws.specs.Choose.{pick}
 use Rattle.writer.specs.declared.WriterState.{WriterState}
 use Rattle.writer.specs.declared.Reply.{Reply}
-use Rattle.writer.specs.declared.Reply.TheVariants.{Plain, Warned, Refused}
+use Rattle.writer.specs.declared.Reply.TheVariants.{Plain, Warned}
 use Rattle.writer.specs.Items.{Item, size}
-use Rattle.writer.specs.Writing.{reply_number, answer_at, warns}
+use Rattle.writer.specs.Writing.{answer_at, warns}
 
 warned_so : (t : Bool) → pick t Warned Plain ≡ Warned → t ≡ true
 warned_so true e = refl
@@ -32,11 +32,3 @@ either_answer P plain warned s p = go (ltb (s.capacity - s.zone) p)
     go : (t : Bool) → P (pick t Warned Plain)
     go true = warned
     go false = plain
-
--- so it is no refusal
-pub answer_0 : (s : WriterState) (p : ℕ) → reply_number (answer_at s p) ≡ 0
-answer_0 = either_answer (λ a. reply_number a ≡ 0) refl refl
-
-pub answer_taken : (m : ℕ) (s : WriterState) (p : ℕ) → answer_at s p ≡ Refused m → ⊥
-answer_taken m =
-    either_answer (λ a. a ≡ Refused m → ⊥) (λ e. let z : ◌≡◌ {A = ℕ} 0 1 = cc in omega arith) (λ e. let z : ◌≡◌ {A = ℕ} 0 1 = cc in omega arith)

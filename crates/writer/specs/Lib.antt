@@ -1,3 +1,4 @@
 -- What writing a cartridge is.
 pub mod Items
 pub mod Writing
+pub mod Steps

@@ -1,19 +1,15 @@
 -- The writer (FORMAT, "Writing"; NUMBERS): a state and an image go in, a state, an answer and an image come out.
-use Rattle.std.specs.Prelude.{◌≡◌, Bool, true, false, not, ◌&&◌, List, [], ◌∷◌, ℕ, zero, suc, ◌+◌, ◌-◌, eqb, leb, ltb, length, replicate}
+use Rattle.std.specs.Prelude.{◌≡◌, Bool, true, false, not, ◌&&◌, List, [], ◌∷◌, ℕ, zero, suc, ◌+◌, ◌-◌, eqb, leb, ltb, length, replicate, Result, Ok, Err}
 use Rattle.laws.specs.Choose.{pick, first_of}
+use Rattle.numbers.specs.declared.Refusal.{Refusal}
+use Rattle.numbers.specs.Refusals.{number_of, cause_of}
 use Rattle.block.specs.Content.{head, eod}
 use Rattle.block.specs.Image.{capacity_of, image_ok, image_then_key, lay}
 use Rattle.writer.specs.declared.WriterState.{WriterState}
 use Rattle.writer.specs.declared.Reply.{Reply}
-use Rattle.writer.specs.declared.Reply.TheVariants.{Plain, Warned, Refused}
+use Rattle.writer.specs.declared.Reply.TheVariants.{Plain, Warned}
 use Rattle.writer.specs.declared.Wrote.{Wrote}
 use Rattle.writer.specs.Items.{Item, rec, fmark, size, blocks, file_marks}
-
--- the number of each answer
-abbrev pub reply_number : Reply → ℕ
-reply_number Plain = 0
-reply_number Warned = 0
-reply_number (Refused n) = n
 
 -- ---- what is asked of a zone and a state
 -- 1 to c - 1
@@ -58,13 +54,13 @@ close_number s key image = call_number s key image 0
 -- ---- what a call gives: the next state, the answer and its number, and the image that it leaves
 pub record Done : Type 0 where
   pub state : WriterState
-  pub reply : Reply
+  pub reply : Result Reply Refusal
   pub number : ℕ
   pub image : List ℕ
 
 -- refused by the number n, which is not 0
 abbrev pub stay : WriterState → List ℕ → ℕ → Done
-stay s image n = record { state = s; reply = Refused n; number = n; image = image }
+stay s image n = record { state = s; reply = Err (cause_of n); number = n; image = image }
 
 -- d where no cause refuses; else s and the image stay
 abbrev pub judged : Done → WriterState → List ℕ → ℕ → Done
@@ -92,7 +88,7 @@ abbrev pub started : ℕ → ℕ → ℕ → List ℕ → Done
 started id recording e image =
     record {
       state = record { id = id; recording = recording; capacity = capacity_of image; zone = e; position = 0; closed = false; marks = 0 };
-      reply = Plain;
+      reply = Ok Plain;
       number = 0;
       image = replicate (length image) 0;
     }
@@ -101,7 +97,7 @@ abbrev pub taken : WriterState → List ℕ → List ℕ → Item → Done
 taken s key image i =
     record {
       state = moved s (s.position + size i) false (s.marks + file_marks i);
-      reply = warns s i;
+      reply = Ok (warns s i);
       number = 0;
       image = lay key s.id s.recording image s.position (blocks i);
     }
@@ -110,7 +106,7 @@ abbrev pub ended : WriterState → List ℕ → List ℕ → Done
 ended s key image =
     record {
       state = moved s (s.position + 1) true s.marks;
-      reply = Plain;  -- a closing is never warned
+      reply = Ok Plain;  -- a closing is never warned
       number = 0;
       image = lay key s.id s.recording image s.position (head eod ∷ []);
     }
@@ -131,5 +127,5 @@ wrote_of d = record { state = d.state; reply = d.reply }
 
 pub record Did (d : Done) (r : Wrote) (image' : List ℕ) : Type 0 where
   pub says : r ≡ wrote_of d
-  pub number : reply_number r.reply ≡ d.number
+  pub number : number_of r.reply ≡ d.number
   pub leaves : image' ≡ d.image

@@ -2,18 +2,18 @@
 #![tactic(auto)]
 
 ghost use Rattle.std.specs.Prelude.{◌≡◌, true, [], ◌+◌, ◌*◌, ◌≤◌, ◌<◌, length};
+ghost use Rattle.std.specs.Result.{IfOk};
+ghost use Rattle.numbers.specs.Refusals.{number_of};
 ghost use Rattle.block.specs.Format.{seal_block};
 ghost use Rattle.block.specs.Image.{set_block, lay};
 ghost use Rattle.block.specs.Calls.{content_for, fits_kind};
 ghost use Rattle.writer.specs.Items.{rec, fmark, blocks_for, blocks, piece_at};
-ghost use Rattle.writer.specs.Writing.{zone_ok, lawful, item_number, close_number, answer_at, start, write, close, Did};
+ghost use Rattle.writer.specs.Writing.{zone_ok, place_ok, marks_ok, lawful, close_number, answer_at, start, write, close, Did};
+ghost use Rattle.writer.specs.Steps.{handed, begun};
 
-use numbers::{
-    BLOCK_BYTES, BLOCK_PAYLOAD, CLOSED, DONE, NO_ROOM, RECORD_MAX, UNLAWFUL, WRONG_IMAGE,
-    WRONG_RECORD, WRONG_ZONE,
-};
+use numbers::{BLOCK_BYTES, BLOCK_PAYLOAD, KEY_BYTES, RECORD_MAX, Refusal};
 
-#[derive(Clone, Copy)]
+#[derive(Clone, Copy, Debug, PartialEq, Eq)]
 pub struct WriterState {
     pub id: u32,
     pub recording: u64,
@@ -24,219 +24,197 @@ pub struct WriterState {
     pub marks: usize,
 }
 
-#[derive(Clone, Copy)]
+// An item was written; warned, where the position behind it is in the zone.
+#[derive(Clone, Copy, Debug, PartialEq, Eq)]
 pub enum Reply {
     Plain,
     Warned,
-    Refused(u8),
 }
 
-#[derive(Clone, Copy)]
+#[derive(Clone, Copy, Debug, PartialEq, Eq)]
 pub struct Wrote {
     pub state: WriterState,
-    pub reply: Reply,
+    pub reply: Result<Reply, Refusal>,
 }
 
+// The state that a refused start gives: it is lawful for no image.
+const NONE: WriterState = WriterState {
+    id: 0,
+    recording: 0,
+    capacity: 0,
+    zone: 0,
+    position: 0,
+    closed: true,
+    marks: 0,
+};
+
 // ---- Start.
+#[tactic(auto, using(std::proofs::lemmas::Bool::Decides::nat_tests), unfolding(crate::specs::Writing::zone_ok))]
 fn is_zone(c: usize, e: usize) -> bool
     ensures { result ≡ zone_ok c e }
 {
-    if e < 1 {
-        return false;
-    }
-    e < c
+    (1..c).contains(&e)
 }
 
-// Fills the image with zeros and gives the state at block 0, open. 1: the image; 3: the zone; then the image stays, and the state is
-// lawful for no image.
-pub fn start(id: u32, recording: u64, zone: usize, image: &mut [u8]) -> Wrote
-    ensures { Did (start id recording zone image.old) result image.new }
+// Fills the image with zeros and gives the state at block 0, open.
+fn first_state(
+    id: u32,
+    recording: u64,
+    zone: usize,
+    image: &mut [u8],
+) -> Result<WriterState, Refusal>
+    ensures { Did (start id recording zone image.old) (begun result) image.new }
 {
-    let none = WriterState {
-        id: 0,
-        recording: 0,
-        capacity: 0,
-        zone: 0,
-        position: 0,
-        closed: true,
-        marks: 0,
-    };
     if !block::is_image(image.len()) {
-        return Wrote {
-            state: none,
-            reply: Reply::Refused(WRONG_IMAGE),
-        };
+        return Err(Refusal::WrongImage);
     }
     let capacity = image.len() / BLOCK_BYTES;
     if !is_zone(capacity, zone) {
-        return Wrote {
-            state: none,
-            reply: Reply::Refused(WRONG_ZONE),
-        };
+        return Err(Refusal::WrongZone);
     }
     buffer::zero(image);
-    let state = WriterState {
+    Ok(WriterState {
         id,
         recording,
         capacity,
         zone,
-        position: 0,
         closed: false,
-        marks: 0,
-    };
-    Wrote {
-        state,
-        reply: Reply::Plain,
+        ..NONE
+    })
+}
+
+// Starts a recording on an image. 1: the image; 3: the zone; then the image stays, and the state is lawful for no
+// image.
+pub fn start(id: u32, recording: u64, zone: usize, image: &mut [u8]) -> Wrote
+    ensures { Did (start id recording zone image.old) result image.new }
+{
+    match first_state(id, recording, zone, image) {
+        Ok(state) => Wrote {
+            state,
+            reply: Ok(Reply::Plain),
+        },
+        Err(refusal) => Wrote {
+            state: NONE,
+            reply: Err(refusal),
+        },
     }
 }
 
-// ---- A record's blocks.
-const ROUND_UP: usize = BLOCK_PAYLOAD - 1;
-
 // The blocks that a record of n bytes takes.
+#[tactic(auto, unfolding(crate::specs::Items::blocks_for))]
 fn blocks_for(n: usize) -> usize
     requires { n ≤ 31232 }
     ensures { (result ≡ blocks_for n) × (result ≤ 64) }
 {
-    (n + ROUND_UP) / BLOCK_PAYLOAD
-}
-
-// Seals block i of the k blocks of a record at p + i: the image is lent on from there.
-fn lay_piece(
-    key: &[u8],
-    id: u32,
-    recording: u64,
-    p: usize,
-    bytes: &[u8],
-    k: usize,
-    i: usize,
-    image: &mut [u8],
-)
-    requires { (length key.now ≡ 24) × ((p + i) * 512 + 512 ≤ length image.old) × (p + i < 128) × (i < k) ×
-        (k ≡ blocks_for (length bytes.now)) }
-    ensures { image.new ≡ set_block image.old (p + i)
-        (seal_block key.now id recording (p + i) (piece_at bytes.now k i)) }
-{
-    let at = (p + i) * BLOCK_BYTES;
-    let from = i * BLOCK_PAYLOAD;
-    let last = i + 1 == k;
-    let to = if last {
-        bytes.len()
-    } else {
-        from + BLOCK_PAYLOAD
-    };
-    let kind = if i == 0 {
-        block::Kind::First(last)
-    } else {
-        block::Kind::More(last)
-    };
-    block::seal_block(
-        key,
-        id,
-        recording,
-        (p + i) as u32,
-        kind,
-        &bytes[from..to],
-        &mut image[at..],
-    );
-}
-
-// Lays the k blocks of a record from block p on.
-fn lay_record(
-    key: &[u8],
-    id: u32,
-    recording: u64,
-    p: usize,
-    bytes: &[u8],
-    k: usize,
-    image: &mut [u8],
-)
-    requires { (length key.now ≡ 24) × ((p + k) * 512 ≤ length image.old) × (p + k ≤ 128) ×
-        (k ≡ blocks_for (length bytes.now)) }
-    ensures { image.new ≡ lay key.now id recording image.old p
-        (blocks (rec bytes.now)) }
-{
-    for i in 0..k {
-        lay_piece(key, id, recording, p, bytes, k, i, image);
-    }
-}
-
-// Lays a block that has no payload, a file mark or end of data, at p.
-fn lay_empty(key: &[u8], id: u32, recording: u64, p: usize, kind: block::Kind, image: &mut [u8])
-    requires { (length key.now ≡ 24) × (p * 512 + 512 ≤ length image.old) × (p < 128) × (fits_kind kind 0 ≡ true) }
-    ensures { image.new ≡ set_block image.old p
-        (seal_block key.now id recording p (content_for kind [])) }
-{
-    let at = p * BLOCK_BYTES;
-    block::seal_block(
-        key,
-        id,
-        recording,
-        p as u32,
-        kind,
-        &key[..0],
-        &mut image[at..],
-    );
+    n.div_ceil(BLOCK_PAYLOAD)
 }
 
 impl WriterState {
+    // ---- What is laid.
+    // Seals block i of the k blocks of a record that begins at the position: the image is lent on from there.
+    fn lay_piece(self, key: &[u8; KEY_BYTES], bytes: &[u8], k: usize, i: usize, image: &mut [u8])
+        requires { ((self.position + i) * 512 + 512 ≤ length image.old) × (self.position + i < 128) × (i < k) ×
+            (k ≡ blocks_for (length bytes.now)) }
+        ensures { image.new ≡ set_block image.old (self.position + i)
+            (seal_block key.now self.id self.recording (self.position + i) (piece_at bytes.now k i)) }
+    {
+        let p = self.position + i;
+        let from = i * BLOCK_PAYLOAD;
+        let last = i + 1 == k;
+        let to = bytes.len().min(from + BLOCK_PAYLOAD);
+        let kind = if i == 0 {
+            block::Kind::First(last)
+        } else {
+            block::Kind::More(last)
+        };
+        self.lay_block(key, p, kind, &bytes[from..to], image);
+    }
+
+    // Lays the k blocks of a record from the position on. By their numbers: over `bytes.chunks(488).enumerate()` what a
+    // piece is stays open (`lay_block-requires`), since std says nothing of what such a walk has left.
+    fn lay_record(self, key: &[u8; KEY_BYTES], bytes: &[u8], k: usize, image: &mut [u8])
+        requires { ((self.position + k) * 512 ≤ length image.old) × (self.position + k ≤ 128) ×
+            (k ≡ blocks_for (length bytes.now)) }
+        ensures { image.new ≡ lay key.now self.id self.recording image.old self.position
+            (blocks (rec bytes.now)) }
+    {
+        for i in 0..k {
+            self.lay_piece(key, bytes, k, i, image);
+        }
+    }
+
+    // Seals a block at p.
+    fn lay_block(
+        self,
+        key: &[u8; KEY_BYTES],
+        p: usize,
+        kind: block::Kind,
+        bytes: &[u8],
+        image: &mut [u8],
+    )
+        requires { (p * 512 + 512 ≤ length image.old) × (p < 128) × (fits_kind kind (length bytes.now) ≡ true) }
+        ensures { image.new ≡ set_block image.old p
+            (seal_block key.now self.id self.recording p (content_for kind bytes.now)) }
+    {
+        let at = p * BLOCK_BYTES;
+        // what it could refuse, key, part and payload, is as it asks: `lent_part` says so
+        let _ = block::seal_block(
+            key,
+            self.id,
+            self.recording,
+            p as u32,
+            kind,
+            bytes,
+            &mut image[at..],
+        );
+    }
+
+    // ---- What is asked first.
+    // A mark takes a block, so no more of them stand before the position than blocks.
+    #[tactic(auto, unfolding(crate::specs::Writing::marks_ok))]
+    fn has_blocks_for_marks(self) -> bool
+        ensures { result ≡ marks_ok self }
+    {
+        self.marks <= self.position
+    }
+
+    #[tactic(auto, using(std::proofs::lemmas::Bool::Decides::nat_tests), unfolding(crate::specs::Writing::place_ok))]
+    fn is_placed(self) -> bool
+        ensures { result ≡ place_ok self }
+    {
+        if self.closed {
+            (1..=self.capacity).contains(&self.position)
+        } else {
+            self.position < self.capacity
+        }
+    }
+
     // Whether the state is lawful for an image of c blocks: any numbers may stand in its fields.
+    #[tactic(auto, unfolding(crate::specs::Writing::lawful))]
     fn is_lawful(self, c: usize) -> bool
         ensures { result ≡ lawful self c }
     {
-        if self.capacity != c {
-            return false;
-        }
-        if !is_zone(self.capacity, self.zone) {
-            return false;
-        }
-        if self.position < self.marks {
-            return false;
-        }
-        if self.closed {
-            if self.position < 1 {
-                return false;
-            }
-            return self.position <= self.capacity;
-        }
-        self.position < self.capacity
+        self.capacity == c
+            && is_zone(self.capacity, self.zone)
+            && self.has_blocks_for_marks()
+            && self.is_placed()
     }
 
-    // What every call asks first: 1, 2, 8, 6, or 0.
-    fn call_number(self, key: &[u8], image: &[u8]) -> u8
-        ensures { result ≡ close_number self key.now image.now }
+    // What every call asks first: 1, 2, 8, 6. It gives the key as the 24 bytes that it is.
+    fn allowed<'a>(self, key: &'a [u8], image: &[u8]) -> Result<&'a [u8; KEY_BYTES], Refusal>
+        ensures code { number_of result ≡ close_number self key.now image.now }
+        ensures key { IfOk result (λ k. k.now ≡ key.now) }
     {
-        let number = block::image_then_key(key, image);
-        if number != DONE {
-            return number;
-        }
+        block::image_then_key(key, image)?;
         if !self.is_lawful(image.len() / BLOCK_BYTES) {
-            return UNLAWFUL;
+            return Err(Refusal::Unlawful);
         }
         if self.closed {
-            return CLOSED;
+            return Err(Refusal::Closed);
         }
-        DONE
-    }
-
-    // The number of a record of n bytes.
-    fn record_number(self, key: &[u8], bytes: &[u8], image: &[u8]) -> u8
-        ensures { result ≡ item_number self key.now image.now (rec bytes.now) }
-    {
-        let number = self.call_number(key, image);
-        if number != DONE {
-            return number;
-        }
-        if bytes.len() < 1 {
-            return WRONG_RECORD;
-        }
-        if RECORD_MAX < bytes.len() {
-            return WRONG_RECORD;
-        }
-        if self.position + blocks_for(bytes.len()) < self.capacity {
-            DONE
-        } else {
-            NO_ROOM
+        match key.as_array() {
+            Some(key) => Ok(key),
+            None => Err(Refusal::WrongLength),
         }
     }
 
@@ -246,54 +224,69 @@ impl WriterState {
         ensures { result ≡ answer_at self p }
     {
         if self.capacity - self.zone < p {
-            return Reply::Warned;
+            Reply::Warned
+        } else {
+            Reply::Plain
         }
-        Reply::Plain
     }
 
-    // Writes a record behind what is there: 1, 2, 8, 6, 4, 5. Refused, the given state comes back and the image stays.
-    pub fn record(self, key: &[u8], bytes: &[u8], image: &mut [u8]) -> Wrote
+    // ---- What is written.
+    fn write_record(&mut self, key: &[u8], bytes: &[u8], image: &mut [u8]) -> Result<Reply, Refusal>
+        ensures { Did (write self.old key.now image.old (rec bytes.now)) (handed self.new result) image.new }
+    {
+        let key = self.allowed(key, image)?;
+        if !(1..=RECORD_MAX).contains(&bytes.len()) {
+            return Err(Refusal::WrongRecord);
+        }
+        let k = blocks_for(bytes.len());
+        let end = self.position + k;
+        if self.capacity <= end {
+            return Err(Refusal::NoRoom);
+        }
+        self.lay_record(key, bytes, k, image);
+        self.position = end;
+        Ok(self.answer_at(end))
+    }
+
+    fn write_mark(&mut self, key: &[u8], image: &mut [u8]) -> Result<Reply, Refusal>
+        ensures { Did (write self.old key.now image.old fmark) (handed self.new result) image.new }
+    {
+        let key = self.allowed(key, image)?;
+        let next = self.position + 1;
+        if self.capacity <= next {
+            return Err(Refusal::NoRoom);
+        }
+        self.lay_block(key, self.position, block::Kind::Mark, &[], image);
+        self.position = next;
+        self.marks += 1;
+        Ok(self.answer_at(next))
+    }
+
+    fn write_end(&mut self, key: &[u8], image: &mut [u8]) -> Result<Reply, Refusal>
+        ensures { Did (close self.old key.now image.old) (handed self.new result) image.new }
+    {
+        let key = self.allowed(key, image)?;
+        self.lay_block(key, self.position, block::Kind::End, &[], image);
+        self.position += 1;
+        self.closed = true;
+        Ok(Reply::Plain) // nothing can follow: there is nothing to warn of
+    }
+
+    // ---- The calls. Refused, the given state comes back and the image stays.
+    // Writes a record behind what is there: 1, 2, 8, 6, 4, 5.
+    pub fn record(mut self, key: &[u8], bytes: &[u8], image: &mut [u8]) -> Wrote
         ensures { Did (write self key.now image.old (rec bytes.now)) result
             image.new }
     {
-        let number = self.record_number(key, bytes, image);
-        if number != DONE {
-            return Wrote {
-                state: self,
-                reply: Reply::Refused(number),
-            };
-        }
-        let k = blocks_for(bytes.len());
-        let p = self.position;
-        lay_record(key, self.id, self.recording, p, bytes, k, image);
-        let reply = self.answer_at(p + k);
-        let mut state = self;
-        state.position = p + k;
-        Wrote { state, reply }
+        let reply = self.write_record(key, bytes, image);
+        Wrote { state: self, reply }
     }
 
     // Writes a file mark: 1, 2, 8, 6, 5.
     pub fn mark(mut self, key: &[u8], image: &mut [u8]) -> Wrote
         ensures { Did (write self key.now image.old fmark) result image.new }
     {
-        let number = self.call_number(key, image);
-        if number != DONE {
-            return Wrote {
-                state: self,
-                reply: Reply::Refused(number),
-            };
-        }
-        let p = self.position;
-        if self.capacity <= p + 1 {
-            return Wrote {
-                state: self,
-                reply: Reply::Refused(NO_ROOM),
-            };
-        }
-        lay_empty(key, self.id, self.recording, p, block::Kind::Mark, image);
-        let reply = self.answer_at(p + 1);
-        self.position = p + 1;
-        self.marks = self.marks + 1;
+        let reply = self.write_mark(key, image);
         Wrote { state: self, reply }
     }
 
@@ -301,20 +294,7 @@ impl WriterState {
     pub fn close(mut self, key: &[u8], image: &mut [u8]) -> Wrote
         ensures { Did (close self key.now image.old) result image.new }
     {
-        let number = self.call_number(key, image);
-        if number != DONE {
-            return Wrote {
-                state: self,
-                reply: Reply::Refused(number),
-            };
-        }
-        let at = self.position;
-        lay_empty(key, self.id, self.recording, at, block::Kind::End, image);
-        self.position = at + 1;
-        self.closed = true;
-        Wrote {
-            state: self,
-            reply: Reply::Plain, // nothing can follow: there is nothing to warn of
-        }
+        let reply = self.write_end(key, image);
+        Wrote { state: self, reply }
     }
 }

@@ -2,6 +2,7 @@
 -- Assumes nothing.
 use borrow.Author.Tests.{eq-eqb, ne_eqb, le-leb, lt-leb}
 use mathlib.Core.Path.{sym, ap, ◌∙◌}
+use native.Mathlib.Omega.{arith}
 use Rattle.laws.specs.Lists.{splice}
 use Rattle.aead.specs.Sealing.{key_ok}
 use Rattle.block.specs.Calls.{seal_block_number}
@@ -16,21 +17,23 @@ pub returns-then-part-lt-BLOCK_BYTES : goal.returns-then-part-lt-BLOCK_BYTES
 unfolding seal_block_number key_ok
 returns-then-part-lt-BLOCK_BYTES c = seal_refuses (rw (eq-eqb _ _ c.if-key-ne-KEY_BYTES.false, lt-leb _ _ c.if-part-lt-BLOCK_BYTES.true))
 
-pub returns-then-not-is_fit : goal.returns-then-not-is_fit
+pub returns-then-not-fits : goal.returns-then-not-fits
 unfolding seal_block_number key_ok
-returns-then-not-is_fit c =
-    seal_refuses (rw (eq-eqb _ _ c.if-key-ne-KEY_BYTES.false, le-leb _ _ c.if-part-lt-BLOCK_BYTES.false, sym c.is_fit.ensures ∙ c.if-not-is_fit.true))
+returns-then-not-fits c =
+    seal_refuses (rw (eq-eqb _ _ c.if-key-ne-KEY_BYTES.false, le-leb _ _ c.if-part-lt-BLOCK_BYTES.false, sym c.fits.ensures ∙ c.if-not-fits.true))
 
 pub payload_of-message-requires : goal.payload_of-message-requires
 payload_of-message-requires c =
-    fits_few c.args.kind _ (sym c.is_fit.ensures ∙ c.if-not-is_fit.false)
+    fits_few c.args.kind _ (sym c.fits.ensures ∙ c.if-not-fits.false)
 
 pub returns : goal.returns
 unfolding seal_block_number key_ok
 returns c =
     let a = c.args in
-    let f = sym c.is_fit.ensures ∙ c.if-not-is_fit.false in
-    seal_writes (rw (eq-eqb _ _ c.if-key-ne-KEY_BYTES.false, le-leb _ _ c.if-part-lt-BLOCK_BYTES.false, f))
-    (c.seal_parts.ensures ∙ ap (splice a.part.now 0)
-    (block_made a.key.now a.id a.recording a.p a.kind a.bytes.now f c.nonce_at-nonce.ensures c.kind_number.ensures
-    c.last_number.ensures c.header_of-head.ensures c.payload_of-message.ensures))
+    let f = sym c.fits.ensures ∙ c.if-not-fits.false in
+    seal_writes (rw (eq-eqb _ _ c.if-key-ne-KEY_BYTES.false, le-leb _ _ c.if-part-lt-BLOCK_BYTES.false, f)) c.seal_parts.ensures.done
+    (c.seal_parts.ensures.bytes ∙ ap (splice a.part.now 0)
+    (block_made a.key.now a.id a.recording a.p a.kind a.bytes.now f c.nonce_at-nonce.ensures c.header_of-head.ensures c.payload_of-message.ensures))
+
+pub overflow_cast-bytes : goal.overflow_cast-bytes
+overflow_cast-bytes c = let h = fits_few c.args.kind _ (sym c.fits.ensures ∙ c.if-not-fits.false) in omega arith

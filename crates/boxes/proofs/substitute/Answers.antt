@@ -1,16 +1,7 @@
--- `boxes::substitute` meets its contract. The invariant of its loop: the first j columns are done.
+-- `boxes::substitute` meets its contract.
 -- Assumes nothing.
-use mathlib.Core.Path.{refl}
-use native.Mathlib.Omega.{arith}
-use Rattle.boxes.specs.Boxes.{forth}
-use Rattle.boxes.proofs.States.{next, done_forth}
+use Rattle.boxes.proofs.States.{done_forth}
 use Rattle.boxes.proofs.substitute.Goals as goal
 
-pub loop-j-preserved : goal.loop-j-preserved
-loop-j-preserved c =
-    next forth (λ g. g) c.args.s.now c.loop-j.t c.loop-j.j _ _ _ _ _ (omega arith) (omega arith) refl
-    c.loaded.ensures c.loaded-in-loop-j.ensures c.forth-y.ensures
-    c.store.ensures c.store-in-loop-j.ensures c.loop-j.invariant
-
 pub returns : goal.returns
-returns c = done_forth _ _ _ (omega arith) c.loop-j.invariant
+returns c = done_forth _ _ c.by_columns.ensures

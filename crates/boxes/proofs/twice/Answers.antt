@@ -7,4 +7,4 @@ use Rattle.boxes.proofs.twice.Goals as goal
 pub returns : goal.returns
 returns c =
     let x = c.args.x in
-    λ n h. rw (c.wide-2.ensures, c.wide.ensures) (bit_twice n x (omega arith) h)
+    λ n h. rw (c.from-2.ensures, c.from.ensures) (bit_twice n x (omega arith) h)

@@ -25,22 +25,7 @@ all_in f s t k e h =
     (lt_or_ge (length f) (length s))
 
 pub loop-k-init : goal.loop-k-init
-loop-k-init c = (omega arith, c.shorter-n.ensures, refl, front_none _ _)
-
-pub bounds-to-k : goal.bounds-to-k
-bounds-to-k c = omega arith
-
-pub bounds-from-k : goal.bounds-from-k
-bounds-from-k c = omega arith
-
-pub bounds-to-k-in-loop-k : goal.bounds-to-k-in-loop-k
-bounds-to-k-in-loop-k c = omega arith
-
-pub overflow_step-k : goal.overflow_step-k
-overflow_step-k c = omega arith
-
-pub loop-k-smaller : goal.loop-k-smaller
-loop-k-smaller c = omega arith
+loop-k-init c = (omega arith, c.min-n.ensures, refl, front_none _ _)
 
 pub loop-k-preserved : goal.loop-k-preserved
 unfolding rule xor
@@ -51,9 +36,6 @@ loop-k-preserved c = let a = c.args in
       simp length-set (omega arith),
       front_more _ _ _ _ _ c.loop-k.invariant.3 h (ap (λ (x : ℕ). xor x (get_or a.from.now c.loop-k.k 0)) (front_seen _ _ _ _ c.loop-k.invariant.3 h)),
     )
-
-pub shape_of-to : goal.shape_of-to
-shape_of-to c = omega arith
 
 pub returns : goal.returns
 returns c = let a = c.args in

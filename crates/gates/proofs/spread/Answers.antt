@@ -8,4 +8,4 @@ use Rattle.gates.proofs.spread.Goals as goal
 
 pub returns : goal.returns
 unfolding half four
-returns c = low_half c.args.x (omega arith)
+returns c = rw c.from-w.ensures (low_half c.args.x (omega arith))

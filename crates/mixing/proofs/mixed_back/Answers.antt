@@ -1,5 +1,9 @@
--- `mixing::mixed_back` meets its contract: each word that it makes is a sum of planes and their turns, and the last eight are those of the inverse.
+-- `mixing::mixed_back` meets its contract: each word of the two halves is a sum of planes and their turns, the sums of
+-- the halves' rows, and with the odd half turned by one column the row is the inverse's.
 -- Assumes nothing.
+use mathlib.Core.Path.{refl}
+use mathlib.Core.List.{List, [], ◌∷◌}
+use Prim.Native.Nat.{ℕ}
 use lib.Dec.{lit<}
 use Rattle.laws.specs.Lists.{listed}
 use Rattle.laws.specs.Xor.{xor}
@@ -10,10 +14,18 @@ use Rattle.planes.specs.Planes.{bit, word}
 use Rattle.mixing.specs.Turns.{before}
 use Rattle.mixing.proofs.Sums.{alone, plane, sum, turned}
 use Rattle.mixing.proofs.States.{wanted, mixes_by}
+use Rattle.mixing.proofs.Rows as rows
 use Rattle.mixing.proofs.mixed_back.Goals as goal
 
+-- the inverse row's even places, and its odd ones one place back
+even_row : List ℕ
+even_row = 0x04 ∷ 0 ∷ 0x0E ∷ 0 ∷ 0xC2 ∷ 0 ∷ 0xCB ∷ 0 ∷ []
+
+odd_row : List ℕ
+odd_row = 0xAF ∷ 0 ∷ 0xA4 ∷ 0 ∷ 0xC2 ∷ 0 ∷ 0x3E ∷ 0 ∷ []
+
 pub returns : goal.returns
-unfolding plane sum turned word alone before wanted bit mix⁻ first_row⁻ times times_bits double only xor places listed
+unfolding even_row odd_row plane sum turned word alone before wanted bit mix⁻ first_row⁻ times times_bits double only xor places listed
 returns c =
     let p = c.args.p in
     let p0 = plane p 0 (lit< tt) in
@@ -24,30 +36,30 @@ returns c =
     let p5 = plane p 5 (lit< tt) in
     let p6 = plane p 6 (lit< tt) in
     let p7 = plane p 7 (lit< tt) in
-    let a0-2 = turned p c.turn-a0_2.ensures tt p0 in
-    let a0-4 = turned p c.turn-a0_4.ensures tt p0 in
-    let a0-6 = turned p c.turn-a0_6.ensures tt p0 in
-    let a1-2 = turned p c.turn-a1_2.ensures tt p1 in
-    let a1-4 = turned p c.turn-a1_4.ensures tt p1 in
-    let a1-6 = turned p c.turn-a1_6.ensures tt p1 in
-    let a2-2 = turned p c.turn-a2_2.ensures tt p2 in
-    let a2-4 = turned p c.turn-a2_4.ensures tt p2 in
-    let a2-6 = turned p c.turn-a2_6.ensures tt p2 in
-    let a3-2 = turned p c.turn-a3_2.ensures tt p3 in
-    let a3-4 = turned p c.turn-a3_4.ensures tt p3 in
-    let a3-6 = turned p c.turn-a3_6.ensures tt p3 in
-    let a4-2 = turned p c.turn-a4_2.ensures tt p4 in
-    let a4-4 = turned p c.turn-a4_4.ensures tt p4 in
-    let a4-6 = turned p c.turn-a4_6.ensures tt p4 in
-    let a5-2 = turned p c.turn-a5_2.ensures tt p5 in
-    let a5-4 = turned p c.turn-a5_4.ensures tt p5 in
-    let a5-6 = turned p c.turn-a5_6.ensures tt p5 in
-    let a6-2 = turned p c.turn-a6_2.ensures tt p6 in
-    let a6-4 = turned p c.turn-a6_4.ensures tt p6 in
-    let a6-6 = turned p c.turn-a6_6.ensures tt p6 in
-    let a7-2 = turned p c.turn-a7_2.ensures tt p7 in
-    let a7-4 = turned p c.turn-a7_4.ensures tt p7 in
-    let a7-6 = turned p c.turn-a7_6.ensures tt p7 in
+    let a0-2 = turned p (c.turned.ensures.words 0 (lit< tt)) tt p0 in
+    let a0-4 = turned p (c.turned-2.ensures.words 0 (lit< tt)) tt p0 in
+    let a0-6 = turned p (c.turned-3.ensures.words 0 (lit< tt)) tt p0 in
+    let a1-2 = turned p (c.turned.ensures.words 1 (lit< tt)) tt p1 in
+    let a1-4 = turned p (c.turned-2.ensures.words 1 (lit< tt)) tt p1 in
+    let a1-6 = turned p (c.turned-3.ensures.words 1 (lit< tt)) tt p1 in
+    let a2-2 = turned p (c.turned.ensures.words 2 (lit< tt)) tt p2 in
+    let a2-4 = turned p (c.turned-2.ensures.words 2 (lit< tt)) tt p2 in
+    let a2-6 = turned p (c.turned-3.ensures.words 2 (lit< tt)) tt p2 in
+    let a3-2 = turned p (c.turned.ensures.words 3 (lit< tt)) tt p3 in
+    let a3-4 = turned p (c.turned-2.ensures.words 3 (lit< tt)) tt p3 in
+    let a3-6 = turned p (c.turned-3.ensures.words 3 (lit< tt)) tt p3 in
+    let a4-2 = turned p (c.turned.ensures.words 4 (lit< tt)) tt p4 in
+    let a4-4 = turned p (c.turned-2.ensures.words 4 (lit< tt)) tt p4 in
+    let a4-6 = turned p (c.turned-3.ensures.words 4 (lit< tt)) tt p4 in
+    let a5-2 = turned p (c.turned.ensures.words 5 (lit< tt)) tt p5 in
+    let a5-4 = turned p (c.turned-2.ensures.words 5 (lit< tt)) tt p5 in
+    let a5-6 = turned p (c.turned-3.ensures.words 5 (lit< tt)) tt p5 in
+    let a6-2 = turned p (c.turned.ensures.words 6 (lit< tt)) tt p6 in
+    let a6-4 = turned p (c.turned-2.ensures.words 6 (lit< tt)) tt p6 in
+    let a6-6 = turned p (c.turned-3.ensures.words 6 (lit< tt)) tt p6 in
+    let a7-2 = turned p (c.turned.ensures.words 7 (lit< tt)) tt p7 in
+    let a7-4 = turned p (c.turned-2.ensures.words 7 (lit< tt)) tt p7 in
+    let a7-6 = turned p (c.turned-3.ensures.words 7 (lit< tt)) tt p7 in
     let t0 = sum a3-4 a7-6 in
     let t1 = sum a0-6 a1-6 in
     let t2 = sum a5-2 a1-4 in
@@ -91,21 +103,27 @@ returns c =
     let t40 = sum t11 t29 in
     let t41 = sum t7 t21 in
     let t42 = sum a5-2 t9 in
-    let o0 = turned p c.turn-o0.ensures tt (sum (sum (sum (sum t10 t17) t34) t41) a1-2) in
-    let o1 = turned p c.turn-o1.ensures tt (sum (sum (sum (sum (sum (sum t11 t12) t17) t27) p0) p2) a2-2) in
-    let o2 = turned p c.turn-o2.ensures tt (sum (sum (sum (sum t5 t26) t30) t33) p2) in
-    let o3 = turned p c.turn-o3.ensures tt (sum (sum t39 t41) a3-4) in
-    let o4 = turned p c.turn-o4.ensures tt (sum (sum (sum (sum (sum (sum t2 t20) t28) p3) a4-2) a2-6) a5-6) in
-    let o5 = turned p c.turn-o5.ensures tt (sum (sum (sum (sum t8 t15) t40) t42) p4) in
-    let o6 = turned p c.turn-o6.ensures tt (sum (sum (sum (sum (sum (sum t22 t32) t33) t37) p1) a3-2) a1-6) in
-    let o7 = turned p c.turn-o7.ensures tt (sum (sum (sum (sum (sum t13 t15) t32) t38) a1-4) a7-4) in
-    mixes_by first_row⁻ p _
-    (sum (sum (sum (sum t9 t18) t36) a7-6) o0)
-    (sum (sum (sum (sum (sum (sum (sum t8 t22) p7) a0-2) a7-2) a3-4) a3-6) o1)
-    (sum (sum (sum (sum t19 t30) t36) a5-2) o2)
-    (sum (sum (sum (sum (sum t4 t17) t26) t39) a0-2) o3)
-    (sum (sum (sum (sum t2 t21) t37) t38) o4)
-    (sum (sum (sum (sum t16 t34) t40) a4-2) o5)
-    (sum (sum (sum (sum t27 t42) a3-2) a5-6) o6)
-    (sum (sum (sum (sum (sum t10 t13) t28) p5) a4-4) o7)
-    tt tt tt tt tt tt tt tt
+    let even =
+    mixes_by even_row p _
+    (sum (sum (sum t9 t18) t36) a7-6)
+    (sum (sum (sum (sum (sum (sum t8 t22) p7) a0-2) a7-2) a3-4) a3-6)
+    (sum (sum (sum t19 t30) t36) a5-2)
+    (sum (sum (sum (sum t4 t17) t26) t39) a0-2)
+    (sum (sum (sum t2 t21) t37) t38)
+    (sum (sum (sum t16 t34) t40) a4-2)
+    (sum (sum (sum t27 t42) a3-2) a5-6)
+    (sum (sum (sum (sum t10 t13) t28) p5) a4-4)
+    tt tt tt tt tt tt tt tt in
+    let odd =
+    mixes_by odd_row p _
+    (sum (sum (sum (sum t10 t17) t34) t41) a1-2)
+    (sum (sum (sum (sum (sum (sum t11 t12) t17) t27) p0) p2) a2-2)
+    (sum (sum (sum (sum t5 t26) t30) t33) p2)
+    (sum (sum t39 t41) a3-4)
+    (sum (sum (sum (sum (sum (sum t2 t20) t28) p3) a4-2) a2-6) a5-6)
+    (sum (sum (sum (sum t8 t15) t40) t42) p4)
+    (sum (sum (sum (sum (sum (sum t22 t32) t33) t37) p1) a3-2) a1-6)
+    (sum (sum (sum (sum (sum t13 t15) t32) t38) a1-4) a7-4)
+    tt tt tt tt tt tt tt tt in
+    let turned = rows.turn (rows.by_row odd_row tt odd) _ c.turned-4.ensures (lit< tt) in
+    rows.mixes (rows.sum (rows.by_row even_row tt even) turned c.sum.ensures) first_row⁻ refl tt

@@ -5,10 +5,11 @@ use mathlib.Core.Bool.{Bool, true, false}
 use mathlib.Core.List.{List, [], ◌∷◌}
 use Prim.Native.Nat.{ℕ}
 use lib.Dec.{eqb, leb}
+use Rattle.numbers.specs.Refusals.{number_of}
 use Rattle.block.specs.Content.{flag}
 use Rattle.writer.specs.declared.WriterState.{WriterState}
 use Rattle.writer.specs.declared.Wrote.{Wrote}
-use Rattle.writer.specs.Writing.{reply_number, wrote_of}
+use Rattle.writer.specs.Writing.{wrote_of}
 use Rattle.writer.proofs.Rules.{write_says, close_says}
 use Rattle.cartridge.specs.Chain.{Call, item, closing, call}
 use Rattle.cartridge.specs.ByCalls as by-calls
@@ -39,7 +40,7 @@ answers s key image x {r} {image'} e c =
     let g = subst (λ (t : WriterState). FlatDid (flat_state s) key image (call key t image x) r image') (crosses_back s) f in
     (g.says ∙ rw (flag_small s.closed), g.leaves ∙ rw (flag_small s.closed))
 
-call_number_lem : (key : List ℕ) (s : WriterState) (image : List ℕ) (x : Call) → reply_number (call key s image x).reply ≡ (call key s image x).number
+call_number_lem : (key : List ℕ) (s : WriterState) (image : List ℕ) (x : Call) → number_of (call key s image x).reply ≡ (call key s image x).number
 call_number_lem key s image (item i) = write_says s key image i
 call_number_lem key s image closing = close_says s key image
 

@@ -1,12 +1,14 @@
--- The file number across the boundary: in a chain of `nb_` calls behind a start that was taken, the marks of the state that came back last
--- are what `nb_report` counts in the image.
+-- The file number across the boundary: in a chain of `nb_` calls behind a start that was taken, the marks of the state
+-- that came back last are what `nb_report` counts in the image.
 -- Assumes nothing.
 use mathlib.Core.Path.{◌≡◌, refl, sym, ap, ◌∙◌}
 use mathlib.Core.List.{List}
 use Prim.Native.Nat.{ℕ}
 use native.Mathlib.Omega.{arith}
+use Rattle.std.specs.Prelude.{Result, Ok, Err}
+use Rattle.numbers.specs.declared.Refusal.{Refusal}
 use Rattle.writer.specs.declared.Reply.{Reply}
-use Rattle.writer.specs.declared.Reply.TheVariants.{Plain, Warned, Refused}
+use Rattle.writer.specs.declared.Reply.TheVariants.{Plain, Warned}
 use Rattle.writer.specs.Writing.{wrote_of, Did}
 use Rattle.writer.proofs.Rules.{start_says}
 use Rattle.survey.specs.Report.{report_of}
@@ -20,10 +22,10 @@ use Rattle.notchbadger.specs.FlatSurvey.{flat_tally}
 use Rattle.notchbadger.specs.NbChain.{NbWrites}
 use Rattle.notchbadger.proofs.writing.Chained.{nb_chain}
 
-plain_code : (a : Reply) → reply_code a ≡ 0 → a ≡ Plain
-plain_code Plain e = refl
-plain_code Warned e = absurd (omega arith)
-plain_code (Refused n) e = absurd (omega arith)
+plain_code : (a : Result Reply Refusal) → reply_code a ≡ 0 → a ≡ Ok Plain
+plain_code (Ok Plain) e = refl
+plain_code (Ok Warned) e = absurd (omega arith)
+plain_code (Err e) r = absurd (omega arith)
 
 pub nb_file_number : (r : Run) {w₀ : NbWrote} {z : List ℕ} {rs : List NbWrote} {s : NbState} {was : List ℕ} {t : NbTally}
     → FlatStarted (begun r.setup) w₀ z → w₀.reply ≡ 0 → AllCallBytes r.calls

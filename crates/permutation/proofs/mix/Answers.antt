@@ -2,26 +2,25 @@
 -- Assumes nothing.
 use native.Mathlib.Omega.{arith}
 use mathlib.Core.Path.{ap, ◌∙◌}
+use Prim.Native.Nat.{◌+◌, ◌-◌, ◌*◌}
 use lib.ListN.{length}
-use Rattle.laws.proofs.ListLaws.{front_none, length_listed}
+use Rattle.laws.specs.Lists.{splice}
+use Rattle.laws.proofs.ListLaws.{front_none}
+use Rattle.laws.proofs.SpliceLaws.{splice_mid}
 use Rattle.permutation.proofs.Mixing.{rows_more, rows_all}
-use Rattle.pi.specs.Permutation.{mix, first_row}
 use Rattle.permutation.proofs.mix.Goals as goal
 
 pub loop-i-init : goal.loop-i-init
-loop-i-init c = (omega arith, c.requires, front_none _ _)
-
-pub put_row-requires : goal.put_row-requires
-put_row-requires c = (ap length c.mixed_row-x.ensures ∙ length_listed 0 8 _, omega arith)
+loop-i-init g c = front_none _ _
 
 pub loop-i-preserved : goal.loop-i-preserved
-loop-i-preserved c =
-    let put = c.put_row in (
-      omega arith,
-      put.auto.to ∙ c.loop-i.invariant.1,
-      put.ensures ∙ rows_more first_row _ c.loop-i.i _ _ _ c.loop-i.invariant.2 c.mixed_row-x.ensures,
-    )
+loop-i-preserved g c =
+    let i = c.loop-i.i in
+    let t = c.loop-i.to in
+    let x = c.mixed_row-x.result in
+    let e = splice_mid t (i * 8) (i * 8 + 8 - i * 8) c.copy_from_slice.new.self (ap length c.copy_from_slice.ensures.after ∙ omega arith)
+    ∙ ap (splice t (i * 8)) c.copy_from_slice.ensures.after in
+    e ∙ rows_more g.W.Way.first _ i _ _ _ c.loop-i.invariant c.mixed_row-x.ensures
 
 pub returns : goal.returns
-unfolding mix
-returns c = rows_all first_row _ _ _ _ c.loop-i.invariant.2 c.requires (omega arith)
+returns g c = rows_all g.W.Way.first _ _ _ _ c.loop-i.invariant c.told-to (omega arith)

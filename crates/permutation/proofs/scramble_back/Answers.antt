@@ -1,12 +1,13 @@
 -- `permutation::scramble_back` meets its contract: its steps, one after the other.
 -- Assumes nothing.
 use mathlib.Core.Path.{ap, ◌∙◌}
-use Rattle.pi.specs.Permutation.{substitute⁻, shift⁻, scramble⁻}
+use Rattle.pi.specs.Permutation.{substitute⁻, target, shift⁻, mix⁻, scramble⁻}
+use Rattle.permutation.specs.Rows.{moved}
 use Rattle.permutation.proofs.Each.{substituted⁻}
 use Rattle.permutation.proofs.scramble_back.Goals as goal
 
 pub returns : goal.returns
-unfolding scramble⁻
+unfolding scramble⁻ mix⁻ shift⁻ moved
 returns c =
-    c.substitute_back.ensures ∙ substituted⁻ _ (c.shift_back.auto.to ∙ c.requires)
-    ∙ ap substitute⁻ (c.shift_back.ensures ∙ ap shift⁻ c.mixed_back-u.ensures)
+    c.substitute.ensures ∙ substituted⁻ _ c.shift.array_long
+    ∙ ap substitute⁻ (c.shift.ensures ∙ ap (moved target) c.mix.ensures)

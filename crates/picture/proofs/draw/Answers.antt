@@ -3,44 +3,46 @@
 use mathlib.Core.Path.{◌≡◌, sym, ◌∙◌}
 use native.Mathlib.Omega.{arith}
 use lib.ListN.{length}
-use Rattle.block.specs.Image.{capacity_of}
+use Rattle.std.proofs.lemmas.Result.{err_from_is_err_and}
+use Rattle.numbers.proofs.RefusalLaws.{cause_not_0}
 use Rattle.block.proofs.ImageSize.{Asked, asked}
 use Rattle.picture.specs.Picture.{draw_number}
 use Rattle.picture.proofs.PictureLaws.{number_refused, number_room, number_done, refused_stays, done_drawn}
-use Rattle.picture.proofs.draw.Goals.{Else-number-ne-DONE, Else-out-image}
+use Rattle.picture.proofs.draw.Goals.{In_ok-image_then_key, Else-out-capacity}
 use Rattle.picture.proofs.draw.Goals as goal
 
 -- nothing is wrong with image and key
-fit : (c : Else-number-ne-DONE) → Asked c.args.key.now c.args.image.now
-fit c = (asked _ _ 0 (sym c.image_then_key-number.ensures ∙ c.if-number-ne-DONE.false)).0
+fit : (c : In_ok-image_then_key) → Asked c.args.cartridge.key.now c.args.cartridge.image.now
+fit c = (asked _ _ 0 (sym c.in_ok-image_then_key.ensures)).0
 
 -- nothing is wrong with the buffer
-done : (c : Else-out-image) → draw_number c.args.key.now c.args.image.now (length c.args.out.now) ≡ 0
-unfolding capacity_of
-done c = number_done (asked _ _ 0 (sym c.image_then_key-number.ensures ∙ c.if-number-ne-DONE.false)).0 _ (omega arith)
+done : (c : Else-out-capacity) → draw_number c.args.cartridge.key.now c.args.cartridge.image.now (length c.args.out.now) ≡ 0
+done c = number_done (asked _ _ 0 (sym c.in_ok-image_then_key.ensures)).0 _ (omega (arith, c.capacity.ensures))
 
-pub returns-then-number-ne-DONE : goal.returns-then-number-ne-DONE
-returns-then-number-ne-DONE c =
-    let e = c.image_then_key-number.ensures in
+pub returns-in_err-image_then_key : goal.returns-in_err-image_then_key
+returns-in_err-image_then_key c =
     let a = c.args in
-    let n = number_refused a.key.now a.image.now (length a.out.now) (λ z. c.if-number-ne-DONE.true (e ∙ z)) in
+    let t = a.cartridge in
+    let p = err_from_is_err_and c.from_residual.result c.from_residual.ensures.1 in
+    let e = c.in_err-image_then_key.ensures in
+    let n = number_refused t.key.now t.image.now (length a.out.now) (λ z. cause_not_0 _ (e ∙ z)) in
     record {
-      says = e ∙ sym n;
-      leaves = refused_stays a.key.now a.id a.recording a.image.now a.out.now (λ z. c.if-number-ne-DONE.true (e ∙ sym n ∙ z));
+      says = rw (p.1, p.2) (e ∙ sym n);
+      leaves = refused_stays t.key.now t.id t.recording t.image.now a.out.now (λ z. cause_not_0 _ (e ∙ sym n ∙ z));
     }
 
-pub returns-then-out-image : goal.returns-then-out-image
-unfolding capacity_of
-returns-then-out-image c =
+pub returns-then-out-capacity : goal.returns-then-out-capacity
+returns-then-out-capacity c =
     let a = c.args in
-    let n = number_room (fit (goal.at.returns-then-out-image c).Else-number-ne-DONE) (length a.out.now) (λ z. omega arith) in
-    record { says = sym n; leaves = refused_stays a.key.now a.id a.recording a.image.now a.out.now (λ z. omega arith) }
+    let t = a.cartridge in
+    let n = number_room (fit (goal.at.returns-then-out-capacity c).In_ok-image_then_key) (length a.out.now) (λ z. omega (arith, c.capacity.ensures)) in
+    record { says = sym n; leaves = refused_stays t.key.now t.id t.recording t.image.now a.out.now (λ z. omega arith) }
 
 pub draw_all-requires : goal.draw_all-requires
-draw_all-requires c = done (goal.at.draw_all-requires c).Else-out-image
+draw_all-requires c = done (goal.at.draw_all-requires c).Else-out-capacity
 
 pub returns : goal.returns
 returns c =
-    let a = c.args in
-    let e = done (goal.at.returns c).Else-out-image in
-    record { says = sym e; leaves = done_drawn a.key.now a.id a.recording a.image.now a.out.now _ e c.draw_all.ensures }
+    let t = c.args.cartridge in
+    let e = done (goal.at.returns c).Else-out-capacity in
+    record { says = sym e; leaves = done_drawn t.key.now t.id t.recording t.image.now c.args.out.now _ e c.draw_all.ensures }

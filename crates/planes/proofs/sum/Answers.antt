@@ -1,14 +1,17 @@
-use mathlib.Core.Path.{◌≡◌, refl}
-use Prim.Native.Nat.{ℕ}
-use lib.Bits.{bit_xor}
-use Rattle.laws.proofs.OrderLaws.{below8}
+use mathlib.Core.Path.{refl}
 use Rattle.planes.specs.Planes.{word}
-use Rattle.planes.proofs.RowLaws.{sum_is}
+use Rattle.planes.proofs.RowLaws.{first_more, first_all, sum_is}
 use Rattle.planes.proofs.sum.Goals as goal
+use Rattle.planes.proofs.sum.Invariants.{Sum}
+
+pub loop-b-preserved : goal.loop-b-preserved
+unfolding word
+loop-b-preserved c =
+    let l = c.loop-b in
+    first_more (Sum c.args.p c.args.q) l.b _ l.words c.loop-b-test.true l.invariant refl
 
 pub returns : goal.returns
 unfolding word
 returns c =
-    let x = c.args in
-    sum_is x.p x.q _
-    (below8 (λ (i : ℕ). word _ i ≡ bit_xor (word x.p i) (word x.q i)) refl refl refl refl refl refl refl refl)
+    let l = c.loop-b in
+    sum_is c.args.p c.args.q _ (first_all (Sum c.args.p c.args.q) l.b l.words c.loop-b-test.false l.invariant)

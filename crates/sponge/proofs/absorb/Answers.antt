@@ -1,73 +1,61 @@
--- `sponge::absorb` meets its contract. The invariant of its loop: k groups are met.
+-- `sponge::absorb` meets its contract.
 -- Assumes nothing.
-use mathlib.Core.Path.{◌≡◌, ap, ◌∙◌}
-use Prim.Native.Nat.{◌+◌, ◌-◌, ◌*◌}
+use mathlib.Core.Path.{◌≡◌, sym, ap, ◌∙◌}
+use mathlib.Core.List.{List, [], ◌∷◌, ◌++◌, append_assoc}
+use Prim.Native.Nat.{ℕ, ◌+◌, ◌*◌}
 use native.Mathlib.Omega.{arith}
-use lib.ListN.{length}
+use lib.ListN.{length, drop, length-append, take-append-drop}
+use Rattle.pi.proofs.Build.{added_is}
 use Rattle.sponge.specs.Blink.{put, kept, met}
-use Rattle.sponge.proofs.Steps.{met_none, met_more, met_last, group_is}
-use Rattle.sponge.proofs.Lengths.{length_group}
+use Rattle.sponge.proofs.Steps.{met_none, met_more, met_last, front_is, behind_is, rest_is_group}
 use Rattle.sponge.proofs.absorb.Goals as goal
 
-pub loop-k-init : goal.loop-k-init
-loop-k-init c = (omega arith, omega arith, met_none _ _ _ _)
+pub loop-group-init : goal.loop-group-init
+loop-group-init c =
+    let b = c.split_at.ensures in
+    let e = take-append-drop (c.last.result * 32) c.args.bytes.now in
+    let left : c.args.bytes.now ≡ c.into_iter-group-iterator.result.rest.now ++ c.split_at.result.1.now = cc in
+    record {
+      size = cc;
+      state = met_none _ _ _ _;
+      left = left;
+      count = omega (arith, ap length left, length-append c.into_iter-group-iterator.result.rest.now c.split_at.result.1.now);
+    }
 
-pub overflow_mul-at : goal.overflow_mul-at
-overflow_mul-at c = omega arith
-
-pub overflow_add-at : goal.overflow_add-at
-overflow_add-at c = omega arith
-
-pub slice_bounds-add-count : goal.slice_bounds-add-count
-slice_bounds-add-count c = omega arith
-
-pub add-requires : goal.add-requires
-add-requires c = (omega arith, omega arith)
-
-pub between-requires : goal.between-requires
-between-requires c = omega arith
-
-pub overflow_step-k : goal.overflow_step-k
-overflow_step-k c = omega arith
-
-pub loop-k-smaller : goal.loop-k-smaller
-loop-k-smaller c = omega arith
-
-pub loop-k-preserved : goal.loop-k-preserved
+pub loop-group-preserved : goal.loop-group-preserved
 unfolding kept
-loop-k-preserved c =
+loop-group-preserved c =
     let a = c.args in
-    let k = c.loop-k.k in
-    let m = c.last-m.ensures in (
-      omega arith,
-      c.between.auto.state ∙ c.add.auto.state ∙ c.loop-k.invariant.1,
-      met_more put a.domain a.state.now a.bytes.now k _ _ _ _ c.loop-k.invariant.2 (group_is a.bytes.now k (k * 32 + 32 - k * 32) (omega arith)) c.add.ensures (omega arith) c.between.ensures,
-    )
-
-pub overflow_mul-at-2 : goal.overflow_mul-at-2
-overflow_mul-at-2 c = omega arith
-
-pub slice_bounds-add-count-2 : goal.slice_bounds-add-count-2
-slice_bounds-add-count-2 c = omega arith
-
-pub add-requires-2 : goal.add-requires-2
-add-requires-2 c = (omega arith, omega arith)
-
-pub overflow_sub-n : goal.overflow_sub-n
-overflow_sub-n c = omega arith
-
-pub close-requires : goal.close-requires
-close-requires c = (omega arith, omega arith)
-
-pub shape_of-state : goal.shape_of-state
-shape_of-state c = omega arith
+    let l = c.loop-group in
+    let k = length l.yielded in
+    let s = c.in-Some.ensures.steps in
+    let g = c.in-Some.group.now in
+    let n = c.next.new.self.rest.now in
+    let r = c.split_at.result.1.now in
+    let y : length (l.yielded ++ (c.in-Some.group ∷ [])) ≡ k + 1 = length-append l.yielded _ in
+    let full : length g ≡ 32 = s.1.1 ∙ l.invariant.size in
+    let e : drop (k * 32) a.bytes.now ≡ g ++ (n ++ r) =
+    l.invariant.left ∙ ap (λ (t : List ℕ). t ++ r) s.1.0 ∙ append_assoc g n r in
+    let more : length l.group-iterator.rest.now ≡ length g + length n = ap length s.1.0 ∙ length-append g n in
+    rw y (record {
+      size = s.0 ∙ l.invariant.size;
+      state =
+          met_more put a.domain a.state.now a.bytes.now k _ _ _ _ l.invariant.state (front_is a.bytes.now k g (n ++ r) full e) (c.add.ensures ∙ added_is _ _ (omega arith))
+          (omega arith) c.between.ensures;
+      left = behind_is a.bytes.now k g (n ++ r) full e;
+      count = omega arith;
+    })
 
 pub returns : goal.returns
 unfolding kept
 returns c =
     let a = c.args in
-    let k = c.last-m.result in
-    let m = c.last-m.ensures in
-    let h : c.loop-k.k ≡ k = omega arith in
-    let g = group_is a.bytes.now k (length a.bytes.now - k * 32) (omega arith) in
-    met_last put a.domain a.state.now a.bytes.now k _ _ _ _ (c.loop-k.invariant.2 ∙ ap (met put a.domain a.state.now a.bytes.now) h) g c.add-2.ensures _ (omega (arith, ap length g, length_group a.bytes.now k)) m c.close.ensures
+    let l = c.loop-group in
+    let s = c.in-None.ensures.steps in
+    let r = c.split_at.result.1.now in
+    let m = c.last.ensures in
+    let h : length l.yielded ≡ c.last.result = omega arith in
+    met_last put a.domain a.state.now a.bytes.now c.last.result _ _ _ _
+    (l.invariant.state ∙ ap (met put a.domain a.state.now a.bytes.now) h)
+    (rest_is_group a.bytes.now c.last.result r (omega arith) (sym c.split_at.ensures.back))
+    (c.add-2.ensures ∙ added_is _ _ (omega arith)) _ (omega arith) m c.close.ensures

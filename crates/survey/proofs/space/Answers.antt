@@ -1,45 +1,37 @@
--- `survey::space` meets its contract: its tests, one after the other, then the spacing itself.
+-- `survey::space` meets its contract: refused, or the spacing itself.
 -- Assumes nothing.
-use borrow.Author.Tests.{ne_eqb, lt-ltb, le-ltb}
-use mathlib.Core.Path.{sym, ◌∙◌}
+use borrow.Author.Tests.{ne_eqb, eq-eqb}
+use mathlib.Core.Path.{◌≡◌, sym, ap, subst, ◌∙◌}
+use Prim.Native.Nat.{◌-◌}
 use native.Mathlib.Omega.{arith}
-use lib.Dec.{ltb}
-use Rattle.laws.specs.Choose.{first_of}
+use Rattle.std.specs.Prelude.{Err}
+use Rattle.numbers.specs.declared.Refusal.{Refusal}
+use Rattle.numbers.specs.Refusals.{cause_of}
+use Rattle.numbers.proofs.RefusalLaws.{cause_of_number, cause_not_0}
+use Rattle.block.specs.declared.Cartridge.{Cartridge}
 use Rattle.block.specs.Image.{capacity_of}
-use Rattle.block.proofs.ImageSize.{image_sized, Asked, asks_refused, asks_rest, asked}
-use Rattle.survey.specs.Spacing.{space_number, spacing}
+use Rattle.reader.specs.Steps.{shown}
+use Rattle.survey.specs.declared.Spaced.{Spaced}
+use Rattle.survey.specs.Spacing.{space_from, spacing}
 use Rattle.survey.proofs.SpaceNumber.{spaced_over_lem}
 use Rattle.survey.proofs.space.Goals as goal
-use Rattle.survey.proofs.space.Goals.{Else-number-ne-DONE}
 
--- nothing is wrong with image and key
-fit : (c : Else-number-ne-DONE) → Asked c.args.key.now c.args.image.now
-fit c = (asked _ _ 0 (sym c.image_then_key-number.ensures ∙ c.if-number-ne-DONE.false)).0
-
-pub returns-then-number-ne-DONE : goal.returns-then-number-ne-DONE
-unfolding spacing space_number
-returns-then-number-ne-DONE c =
-    let e = c.image_then_key-number.ensures in
-    let a = c.args in
-    spaced_over_lem
-    (rw (asks_refused a.key.now a.image.now (first_of (ltb a.p (capacity_of a.image.now)) 8 0) (λ z. c.if-number-ne-DONE.true (e ∙ z)) ∙ sym e, ne_eqb _ _ c.if-number-ne-DONE.true))
-
-pub returns-then-c-p : goal.returns-then-c-p
-unfolding spacing space_number capacity_of
-returns-then-c-p c = spaced_over_lem (rw (asks_rest _ _ (fit (goal.at.returns-then-c-p c).Else-number-ne-DONE) _, le-ltb _ _ c.if-c-p.true))
+pub returns-in-Err : goal.returns-in-Err
+unfolding spacing
+returns-in-Err c =
+    let x = c.in-Err.refusal in
+    let e = c.in-Err.ensures.number in
+    let spaced : Refusal → Spaced = λ y. record { reach = Err y; position = c.args.p } in
+    spaced_over_lem (rw (ne_eqb _ _ (λ z. cause_not_0 x (e ∙ z))) (ap spaced (sym (cause_of_number x) ∙ ap cause_of e)))
 
 pub space_on-requires : goal.space_on-requires
-unfolding capacity_of
 space_on-requires c =
-    let a = fit (goal.at.space_on-requires c).Else-number-ne-DONE in
-    let z = image_sized _ a.image_holds in
-    let b = z.blocks in
-    let m = z.most in
-    let k = a.key24 in
-    omega arith
+    let s = c.in-Ok.ensures.same in
+    let e = ap (λ (t : Cartridge). capacity_of t.image.now) s.0 in
+    (omega (arith, s.1), omega arith)
 
-pub returns : goal.returns
-unfolding spacing space_number capacity_of
-returns c =
-    spaced_over_lem
-    (rw (asks_rest _ _ (fit (goal.at.returns c).Else-number-ne-DONE) _, lt-ltb _ _ c.if-c-p.false) (c.space_on.ensures _ (omega arith)))
+pub returns-in-Ok : goal.returns-in-Ok
+unfolding spacing
+returns-in-Ok c =
+    let P : Cartridge → Type 0 = λ t. c.space_on.result ≡ space_from (capacity_of t.image.now - c.args.p) (shown t) (capacity_of t.image.now) c.args.p c.args.n 0 in
+    spaced_over_lem (rw (eq-eqb _ _ (sym c.in-Ok.ensures.number)) (subst P c.in-Ok.ensures.same.0 (c.space_on.ensures _ (omega arith))))

@@ -1,9 +1,0 @@
--- `gates::sum` meets its contract.
--- Assumes nothing.
-use Rattle.gates.specs.Gates.{half}
-use Rattle.gates.proofs.Bits.{four, sum_is}
-use Rattle.gates.proofs.sum.Goals as goal
-
-pub returns : goal.returns
-unfolding half four
-returns c = λ n h. sum_is n _ _ _ _ _ _ _ _
