@@ -11,16 +11,19 @@ ghost use Rattle.laws.specs.Xor.{xor_into};
 pub fn zero(out: &mut [u8])
     ensures { out.new ≡ replicate (length out.old) 0 }
 {
-    out.fill(0);
+    for k in 0..out.len() {
+        out[k] = 0;
+    }
 }
 
 // Lays `from` over the front of `to`, as much of it as there is room for.
-#[tactic(auto, using(laws::proofs::SpliceLaws::splice_front))]
 pub fn copy(to: &mut [u8], from: &[u8])
     ensures { to.new ≡ splice to.old 0 (take (length to.old) from.now) }
 {
     let n = to.len().min(from.len());
-    to[..n].copy_from_slice(&from[..n]);
+    for at in 0..n {
+        to[at] = from[at];
+    }
 }
 
 // Takes `from` into the front of `to` by xor, as far as both go. By index: what is written through `iter_mut` beside

@@ -1,18 +1,21 @@
 -- For callers: which lengths are right, and what a call leaves where they are.
 -- Assumes nothing.
-use mathlib.Core.Path.{◌≡◌, refl, ◌∙◌}
+use mathlib.Core.Path.{◌≡◌, refl, sym, ap, ◌∙◌}
 use mathlib.Core.Bool.{Bool, true, false, ◌&&◌}
 use mathlib.Core.List.{List}
 use Prim.Native.Nat.{ℕ, ◌≤◌}
 use native.Mathlib.Omega.{arith}
 use borrow.Author.Tests.{eq-eqb, le-leb, eqb-true, leb-true}
 use lib.Dec.{eqb, leb}
-use lib.ListN.{length}
+use lib.ListN.{length, take}
+use lib.Seq.{take_all}
 use Rattle.std.specs.Prelude.{IsOk, Result, Ok, Err}
 use Rattle.numbers.specs.Refusals.{number_of}
 use Rattle.numbers.specs.declared.Refusal.{Refusal}
 use Rattle.numbers.specs.declared.Refusal.TheVariants as refusal
 use Rattle.laws.specs.Choose.{first_of}
+use Rattle.laws.specs.Lists.{splice}
+use Rattle.laws.proofs.SpliceLaws.{splice_whole}
 use Rattle.pi.specs.Permutation.{is_state}
 use Rattle.sponge.specs.Blink.{Op, put, after, out, number, Put, Ran}
 
@@ -41,6 +44,10 @@ allowed v s o e =
 pub number_zero : (v s o : List ℕ) → length v ≡ 64 → length o ≡ length s → length s ≤ 65536 → number v s o ≡ 0
 unfolding number is_state
 number_zero v s o h k l = rw (eq-eqb (length v) 64 h, eq-eqb (length o) (length s) k, le-leb (length s) 65536 l)
+
+-- the bytes that are copied into a buffer of their length are all that it holds
+pub copied : (o s t : List ℕ) → length o ≡ length s → t ≡ splice o 0 (take (length o) s) → t ≡ s
+copied o s t e f = f ∙ ap (splice o 0) (take_all (length o) s (omega arith)) ∙ splice_whole o s (sym e)
 
 -- what has the number 0 was not refused
 pub accepted : (r : Result (Unit {0}) Refusal) → number_of r ≡ 0 → IsOk r
