@@ -44,18 +44,18 @@ pub enum Complaint {
     Output(io::Error),
 }
 
-// ---- Parts of a line. `rt` has the arguments, and `err` is standard error.
+// ---- Parts of a line. `rt` has the arguments, and `err` is standard error. A part that can't be written is passed
+// over, and the next one tried: nobody is left to be told.
 const IMAGE_LIMIT: usize = IMAGE_MOST * BLOCK_BYTES;
 
 // Of a key file this much is read, and told: a key in hexadecimal too.
 pub const KEY_SHOWN: usize = 64;
 
 // An argument's bytes, which need not be text.
-fn as_given<R: Env, E: Print>(rt: &R, err: &E, argument: Argument) -> io::Result<()> {
+fn as_given<R: Env, E: Print>(rt: &R, err: &E, argument: Argument) {
     let mut text = [0u8; 4096];
-    match rt.arg(argument as usize, &mut text) {
-        Ok(n) => err.write_all(&text[..n]),
-        Err(_) => Ok(()),
+    if let Ok(n) = rt.arg(argument as usize, &mut text) {
+        let _ = err.write_all(&text[..n]);
     }
 }
 
@@ -97,8 +97,7 @@ impl fmt::Display for Words {
 }
 
 impl Complaint {
-    pub fn tell<R: Env, E: Print>(self, rt: &R, err: &E) -> io::Result<()> {
-        print!(err; "walk: ")?;
+    pub fn tell<R: Env, E: Print>(self, rt: &R, err: &E) {
         match self {
             Complaint::Usage => usage(err),
             Complaint::WrongId(why) => {
@@ -115,78 +114,53 @@ impl Complaint {
                 is_line,
                 is_hexadecimal,
             } => { wrong_key(rt, err, bytes, is_line, is_hexadecimal) }
-            Complaint::Output(error) => {
-                println!(err; "can't write to standard output: {}", Words(error))
-            }
+            Complaint::Output(error) => output(err, error),
         }
     }
 }
 
-fn usage<E: Print>(err: &E) -> io::Result<()> {
-    println!(err; "expected 4 arguments")?;
-    println!(err; "usage: walk IMAGE KEY ID RECORDING (walk --help says more)")
+fn usage<E: Print>(err: &E) {
+    let _ = println!(err; "walk: expected 4 arguments");
+    let _ = println!(err; "usage: walk IMAGE KEY ID RECORDING (walk --help says more)");
 }
 
-fn wrong_number<R: Env, E: Print>(
-    rt: &R,
-    err: &E,
-    argument: Argument,
-    why: NotANumber,
-    most: u64,
-) -> io::Result<()> {
-    print!(err; "the {argument} \"")?;
-    as_given(rt, err, argument)?;
-    println!(err; "\" {why}: it is a number from 0 to {most}")
+fn wrong_number<R: Env, E: Print>(rt: &R, err: &E, argument: Argument, why: NotANumber, most: u64) {
+    let _ = print!(err; "walk: the {argument} \"");
+    as_given(rt, err, argument);
+    let _ = println!(err; "\" {why}: it is a number from 0 to {most}");
 }
 
-fn unreadable<R: Env, E: Print>(
-    rt: &R,
-    err: &E,
-    argument: Argument,
-    error: io::Error,
-) -> io::Result<()> {
-    print!(err; "can't read the {argument} ")?;
-    as_given(rt, err, argument)?;
-    println!(err; ": {}", Words(error))
+fn unreadable<R: Env, E: Print>(rt: &R, err: &E, argument: Argument, error: io::Error) {
+    let _ = print!(err; "walk: can't read the {argument} ");
+    as_given(rt, err, argument);
+    let _ = println!(err; ": {}", Words(error));
 }
 
-fn wrong_image<R: Env, E: Print>(rt: &R, err: &E, bytes: usize) -> io::Result<()> {
-    print!(err; "the image ")?;
-    as_given(rt, err, Argument::Image)?;
-    print!(err;
-        " has {}",
-        Size {
-            bytes,
-            most: IMAGE_LIMIT
-        }
-    )?;
+fn output<E: Print>(err: &E, error: io::Error) {
+    let _ = println!(err; "walk: can't write to standard output: {}", Words(error));
+}
+
+fn wrong_image<R: Env, E: Print>(rt: &R, err: &E, bytes: usize) {
+    let most = IMAGE_LIMIT;
+    let _ = print!(err; "walk: the image ");
+    as_given(rt, err, Argument::Image);
+    let _ = print!(err; " has {}", Size { bytes, most });
     if bytes < IMAGE_LIMIT && bytes % BLOCK_BYTES != 0 {
-        print!(err; " and ends inside a block")?;
+        let _ = print!(err; " and ends inside a block");
     }
-    println!(err; ": an image has 4 to 128 blocks of 512 bytes")
+    let _ = println!(err; ": an image has 4 to 128 blocks of 512 bytes");
 }
 
-fn wrong_key<R: Env, E: Print>(
-    rt: &R,
-    err: &E,
-    bytes: usize,
-    is_line: bool,
-    is_hexadecimal: bool,
-) -> io::Result<()> {
-    print!(err; "the key ")?;
-    as_given(rt, err, Argument::Key)?;
-    print!(err;
-        " has {}",
-        Size {
-            bytes,
-            most: KEY_SHOWN
-        }
-    )?;
+fn wrong_key<R: Env, E: Print>(rt: &R, err: &E, bytes: usize, is_line: bool, is_hexadecimal: bool) {
+    let most = KEY_SHOWN;
+    let _ = print!(err; "walk: the key ");
+    as_given(rt, err, Argument::Key);
+    let _ = print!(err; " has {}", Size { bytes, most });
     if is_line {
-        print!(err; ", the last a newline")?;
+        let _ = print!(err; ", the last a newline");
     }
     if is_hexadecimal {
-        print!(err; " and looks like hexadecimal")?;
+        let _ = print!(err; " and looks like hexadecimal");
     }
-    println!(err; ": a key file has 24 bytes and nothing else")
+    let _ = println!(err; ": a key file has 24 bytes and nothing else");
 }

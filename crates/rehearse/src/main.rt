@@ -4,48 +4,36 @@
 ghost use Rattle.std.specs.Prelude.{◌≤◌};
 
 use print::Answered;
-use std::io;
 use writer::{WriterState, Wrote};
 
 const KEY: [u8; 24] = [7; 24];
 
-// Verb, length, position afterwards, result; the state goes on.
-fn show<P: Print>(rt: &P, verb: &str, length: usize, wrote: Wrote) -> io::Result<WriterState> {
+// Verb, length, position afterwards, result; the state goes on, also where the line can't be written.
+fn show<P: Print>(rt: &P, verb: &str, length: usize, wrote: Wrote) -> WriterState {
     let state = wrote.state;
-    println!(rt;
+    let _ = println!(rt;
         "{verb} {length} {} {}",
         state.position,
         Answered(wrote.reply)
-    )?;
-    Ok(state)
+    );
+    state
 }
 
 // Records n bytes.
-fn record<P: Print>(
-    rt: &P,
-    state: WriterState,
-    n: usize,
-    image: &mut [u8],
-) -> io::Result<WriterState>
+fn record<P: Print>(rt: &P, state: WriterState, n: usize, image: &mut [u8]) -> WriterState
     requires { n ≤ 1464 }
 {
     let reel = [0x5Au8; 1464];
     show(rt, "record", n, state.record(&KEY, &reel[..n], image))
 }
 
-fn rehearse<P: Print>(rt: &P) -> io::Result<()> {
+fn main(rt: HostRuntime) {
     let mut image = [0u8; 4096];
     let mut state = writer::start(1, 1, 3, &mut image).state;
-    state = record(rt, state, 5, &mut image)?;
-    state = record(rt, state, 489, &mut image)?;
-    state = show(rt, "mark", 0, state.mark(&KEY, &mut image))?;
-    state = record(rt, state, 1464, &mut image)?;
-    state = record(rt, state, 1, &mut image)?;
-    show(rt, "close", 0, state.close(&KEY, &mut image))?;
-    Ok(())
-}
-
-// Where a line can't be written it stops there; its status is 0 then too, as it was.
-fn main(rt: HostRuntime) {
-    let _ = rehearse(&rt);
+    state = record(&rt, state, 5, &mut image);
+    state = record(&rt, state, 489, &mut image);
+    state = show(&rt, "mark", 0, state.mark(&KEY, &mut image));
+    state = record(&rt, state, 1464, &mut image);
+    state = record(&rt, state, 1, &mut image);
+    show(&rt, "close", 0, state.close(&KEY, &mut image));
 }

@@ -6,7 +6,6 @@ ghost use Rattle.std.specs.Prelude.{◌≡◌, ◌≤◌, ◌<◌, length};
 
 use crate::show::Buffer;
 use numbers::{KEY_BYTES, NONCE_BYTES, Refusal, TAG_BYTES};
-use std::io;
 use std::io::Read;
 
 // No number of five digits is above it.
@@ -92,9 +91,9 @@ impl Line<'_> {
 }
 
 // The line, and the number that its call gave: 0 where it was carried out.
-fn show_answer<P: Print>(rt: &P, line: Line, answer: Result<(), Refusal>) -> io::Result<()> {
-    rt.write_all(line.text)?;
-    println!(rt; " = {}", answer.err().map_or(0, u8::from))
+fn show_answer<P: Print>(rt: &P, line: Line, answer: Result<(), Refusal>) {
+    let _ = rt.write_all(line.text);
+    let _ = println!(rt; " = {}", answer.err().map_or(0, u8::from));
 }
 
 // ---- Buffers.
@@ -126,18 +125,24 @@ fn on_state(
     }
 }
 
-fn call_on_state<P: Print>(rt: &P, line: Line, step: Step) -> io::Result<()> {
+fn show_out<P: Print>(rt: &P, out: &[u8]) {
+    let _ = println!(rt; "out {}", Buffer(out));
+}
+
+// In a frame of its own, as sealing and opening are: each has some 100,000 bytes for each buffer.
+#[inline(never)]
+fn call_on_state<P: Print>(rt: &P, line: Line, step: Step) {
     let text = filled(5);
     let mut whole_state = filled(1);
     let mut whole_out = filled(6);
     let state = &mut whole_state[..line.field(0)];
     let out = &mut whole_out[..line.out(step)];
     let answer = on_state(step, state, &text[..line.field(1)], out, line.domain());
-    show_answer(rt, line, answer)?;
-    println!(rt; "state {}", Buffer(state))?;
+    show_answer(rt, line, answer);
+    let _ = println!(rt; "state {}", Buffer(state));
     match step {
-        Step::Permute | Step::PermuteBack | Step::Put => Ok(()),
-        Step::Get | Step::Enc | Step::Dec => println!(rt; "out {}", Buffer(out)),
+        Step::Permute | Step::PermuteBack | Step::Put => {}
+        Step::Get | Step::Enc | Step::Dec => show_out(rt, out),
     }
 }
 
@@ -169,7 +174,8 @@ fn make_sealed(text: &mut [u8], data: &[u8], f: usize)
 }
 
 // What an opening is given is sealed first.
-fn call_sealing<P: Print>(rt: &P, line: Line, sealing: Sealing) -> io::Result<()> {
+#[inline(never)]
+fn call_sealing<P: Print>(rt: &P, line: Line, sealing: Sealing) {
     let whole_key = filled(2);
     let whole_nonce = filled(3);
     let whole_data = filled(4);
@@ -187,12 +193,12 @@ fn call_sealing<P: Print>(rt: &P, line: Line, sealing: Sealing) -> io::Result<()
             aead::open(key, nonce, data, text, out)
         }
     };
-    show_answer(rt, line, answer)?;
-    println!(rt; "out {}", Buffer(out))
+    show_answer(rt, line, answer);
+    show_out(rt, out);
 }
 
 // ---- The input.
-fn serve<P: Print>(rt: &P, line: Line) -> io::Result<()> {
+fn serve<P: Print>(rt: &P, line: Line) {
     match line.call() {
         Call::OnState(step) => call_on_state(rt, line, step),
         Call::Sealing(sealing) => call_sealing(rt, line, sealing),
@@ -200,14 +206,13 @@ fn serve<P: Print>(rt: &P, line: Line) -> io::Result<()> {
 }
 
 // The lines of the input, 1,000 at most.
-pub fn all<R: Print + Input>(rt: &R) -> io::Result<()> {
+pub fn all<R: Print + Input>(rt: &R) {
     let mut input = rt.reader();
     for _ in 0usize..1000 {
         let mut line = [0u8; 38];
         if input.read_exact(&mut line).is_err() {
-            return Ok(());
+            return;
         }
-        serve(rt, Line { text: &line[0..37] })?;
+        serve(rt, Line { text: &line[0..37] });
     }
-    Ok(())
 }

@@ -2,16 +2,14 @@
 // Each state here has 64 bytes, and no part is above a limit, so none of these calls is refused.
 use crate::show::Buffer;
 use numbers::{DOMAIN_DATA, DOMAIN_KEY, DOMAIN_MESSAGE, DOMAIN_NONCE, Refusal};
-use std::io;
 
-fn show_table<P: Print>(rt: &P) -> io::Result<()> {
+fn show_table<P: Print>(rt: &P) {
     for k in 0u8..=255 {
-        print!(rt; "{:02X}", permutation::minibox(k))?;
+        let _ = print!(rt; "{:02X}", permutation::minibox(k));
         if k % 16 == 15 {
-            println!(rt)?;
+            let _ = println!(rt);
         }
     }
-    Ok(())
 }
 
 // ---- 1.3.1: twelve rounds forward, and then back.
@@ -31,19 +29,18 @@ fn constant(r: u8) -> [u8; 64] {
     key
 }
 
-fn show_rounds<P: Print>(rt: &P) -> io::Result<()> {
+fn show_rounds<P: Print>(rt: &P) {
     let mut state = X0;
-    println!(rt; "# 1.3.1 forward\nx0 {}", Buffer(&state))?;
+    let _ = println!(rt; "# 1.3.1 forward\nx0 {}", Buffer(&state));
     for r in 0u8..12 {
         let _ = permutation::round(&mut state, &constant(r));
-        println!(rt; "x{} {}", r + 1, Buffer(&state))?;
+        let _ = println!(rt; "x{} {}", r + 1, Buffer(&state));
     }
-    println!(rt; "# 1.3.1 back\nx12 {}", Buffer(&state))?;
+    let _ = println!(rt; "# 1.3.1 back\nx12 {}", Buffer(&state));
     for r in (0u8..12).rev() {
         let _ = permutation::round_back(&mut state, &constant(r));
-        println!(rt; "x{r} {}", Buffer(&state))?;
+        let _ = println!(rt; "x{r} {}", Buffer(&state));
     }
-    Ok(())
 }
 
 // ---- 1.3.2: what is sealed, and the trace found from its end, by undoing π and what was added before it.
@@ -55,10 +52,10 @@ const DATA: [u8; 32] = *b"AAD Test Vector Exact Block 32 B";
 
 const MESSAGE: [u8; 38] = *b"2 Block Test Vector for stribob192r2d2";
 
-fn show_sealed<P: Print>(rt: &P) -> io::Result<()> {
+fn show_sealed<P: Print>(rt: &P) {
     let mut sealed = [0u8; 54];
     let _ = aead::seal(&KEY, &NONCE, &DATA, &MESSAGE, &mut sealed);
-    println!(rt; "# 1.3.2 sealed\n{}", Buffer(&sealed))
+    let _ = println!(rt; "# 1.3.2 sealed\n{}", Buffer(&sealed));
 }
 
 // What each step adds: its bytes, 01 behind them where it closes an operation, and at 32 the domain byte and what
@@ -81,23 +78,22 @@ fn sealed(state: &mut [u8; 64]) -> Result<(), Refusal> {
 }
 
 // From π's output at each step to that of the step before.
-fn show_trace<P: Print>(rt: &P) -> io::Result<()> {
+fn show_trace<P: Print>(rt: &P) {
     let mut state = [0u8; 64];
     let _ = sealed(&mut state);
-    println!(rt; "# 1.3.2 trace, from its end")?;
+    let _ = println!(rt; "# 1.3.2 trace, from its end");
     for (n, added) in ADDED.iter().enumerate().rev() {
-        println!(rt; "out {n} {}", Buffer(&state))?;
+        let _ = println!(rt; "out {n} {}", Buffer(&state));
         let _ = permutation::permute_back(&mut state);
-        println!(rt; "Block {n} {}", Buffer(&state))?;
+        let _ = println!(rt; "Block {n} {}", Buffer(&state));
         buffer::add(&mut state, added);
     }
-    Ok(())
 }
 
-pub fn all<P: Print>(rt: &P) -> io::Result<()> {
-    println!(rt; "# table 1.1 by the miniboxes")?;
-    show_table(rt)?;
-    show_rounds(rt)?;
-    show_sealed(rt)?;
-    show_trace(rt)
+pub fn all<P: Print>(rt: &P) {
+    let _ = println!(rt; "# table 1.1 by the miniboxes");
+    show_table(rt);
+    show_rounds(rt);
+    show_sealed(rt);
+    show_trace(rt);
 }
