@@ -66,14 +66,21 @@ fn open<R: Files>(rt: &R, name: &[u8]) -> io::Result<R::File> {
     }
 }
 
-// Reads until the buffer is full or the file ends, and gives the number of bytes.
+// Reads until the buffer is full or the file ends, and gives the number of bytes. Each read asks for all that is still
+// wanted, and one that fails ends it: `io::copy` reads 8,192 bytes at a time, which cuts a longer packet and lets an
+// image change in between, and goes on for ever where each read is interrupted.
 fn read_full<F: Read>(file: &mut F, room: &mut [u8]) -> io::Result<usize>
     ensures { IfOk result (λ n. n ≤ length room.new) }
 {
-    let most = room.len();
-    let mut rest = &mut room[..];
-    io::copy(&mut file.take(most as u64), &mut rest)?;
-    Ok(most.saturating_sub(rest.len()))
+    let mut done: usize = 0;
+    while done < room.len() {
+        let n = file.read(&mut room[done..])?;
+        if n == 0 {
+            return Ok(done);
+        }
+        done += n;
+    }
+    Ok(done)
 }
 
 fn read_file<R: Files>(rt: &R, name: &[u8], room: &mut [u8]) -> io::Result<usize>

@@ -101,12 +101,14 @@ fn serve<P: Print>(out: &P, cartridge: Cartridge) -> Result<Status, Complaint>
     Ok(ends)
 }
 
-fn walk<R: Env + Files + Input + Print>(rt: &R) -> Result<Status, Complaint> {
-    if !input::are_four(rt) {
-        return Err(Complaint::Usage);
-    }
-    let id = input::id(rt).map_err(Complaint::WrongId)?;
-    let recording = input::recording(rt).map_err(Complaint::WrongRecording)?;
+// The image and the key are read once the arguments are: each of those has 128 KiB of the stack while it is read, and
+// this has it behind them, in a frame of its own.
+#[inline(never)]
+fn walk_on<R: Env + Files + Input + Print>(
+    rt: &R,
+    id: u32,
+    recording: u64,
+) -> Result<Status, Complaint> {
     let mut image = [0u8; IMAGE_ROOM];
     let n = input::read_image(rt, &mut image).map_err(Complaint::UnreadableImage)?;
     let mut key = [0u8; KEY_ROOM];
@@ -118,6 +120,15 @@ fn walk<R: Env + Files + Input + Print>(rt: &R) -> Result<Status, Complaint> {
         image: &image[..n],
     };
     serve(rt, cartridge)
+}
+
+fn walk<R: Env + Files + Input + Print>(rt: &R) -> Result<Status, Complaint> {
+    if !input::are_four(rt) {
+        return Err(Complaint::Usage);
+    }
+    let id = input::id(rt).map_err(Complaint::WrongId)?;
+    let recording = input::recording(rt).map_err(Complaint::WrongRecording)?;
+    walk_on(rt, id, recording)
 }
 
 fn help<P: Print>(out: &P) -> Result<Status, Complaint> {
@@ -132,7 +143,7 @@ fn end<R: Env, E: Print>(rt: &R, err: &E, run: Result<Status, Complaint>) -> u8
     match run {
         Ok(status) => u8::from(status),
         Err(complaint) => {
-            let _ = complaint.tell(rt, err);
+            complaint.tell(rt, err);
             u8::from(Status::NotDone)
         }
     }
