@@ -274,12 +274,13 @@ impl WriterState {
 
     // ---- The calls. Refused, the given state comes back and the image stays.
     // Writes a record behind what is there: 1, 2, 8, 6, 4, 5.
-    pub fn record(mut self, key: &[u8], bytes: &[u8], image: &mut [u8]) -> Wrote
+    pub fn record(self, key: &[u8], bytes: &[u8], image: &mut [u8]) -> Wrote
         ensures { Did (write self key.now image.old (rec bytes.now)) result
             image.new }
     {
-        let reply = self.write_record(key, bytes, image);
-        Wrote { state: self, reply }
+        let mut state = self;
+        let reply = state.write_record(key, bytes, image);
+        Wrote { state, reply }
     }
 
     // Writes a file mark: 1, 2, 8, 6, 5.
