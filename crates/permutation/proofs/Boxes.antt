@@ -1,6 +1,6 @@
 -- A byte by its halves through the miniboxes: each takes the low half of what it is given.
 -- Assumes nothing.
-use mathlib.Core.Path.{◌≡◌, sym, ap, subst, ◌∙◌}
+use mathlib.Core.Path.{◌≡◌, sym, ap, ap₂, subst, ◌∙◌}
 use Prim.Native.Nat.{ℕ, ◌+◌, ◌*◌, ◌/◌, ◌%◌, ◌<◌}
 use native.Mathlib.Nat.{mod-lt, mod-eq_of_lt}
 use native.Mathlib.Omega.{arith}
@@ -18,6 +18,12 @@ low_xor a b ha hb = mod-eq_of_lt (xor_lt 4 a b ha hb)
 
 low : (f : ℕ → ℕ) → ((x : ℕ) → x < 16 → f x < 16) → (x r : ℕ) → r ≡ f (x % 16) → r < 16
 low f h x r e = subst (λ (y : ℕ). y < 16) (sym e) (h (x % 16) (mod-lt x (lit< tt)))
+
+upper : (p q : ℕ) → q < 16 → (p * 16 + q) / 16 ≡ p
+upper p q h = omega arith
+
+lower : (p q : ℕ) → q < 16 → (p * 16 + q) % 16 ≡ q
+lower p q h = omega arith
 
 module _ (h l u v w a b : ℕ) (eu : u ≡ get_or E (h % 16) 0) (ev : v ≡ get_or E⁻ (l % 16) 0) (ew : w ≡ get_or R (xor u v % 16) 0)
     (ea : a ≡ get_or E (xor u w % 16) 0) (eb : b ≡ get_or E⁻ (xor v w % 16) 0) where
@@ -46,6 +52,18 @@ module _ (h l u v w a b : ℕ) (eu : u ≡ get_or E (h % 16) 0) (ev : v ≡ get_
       joins a b a_low b_low
       ∙ made x (let e : h % 16 ≡ x / 16 = omega arith in e) (let e : l % 16 ≡ x % 16 = omega arith in e)
       ∙ sym (boxed x hx)
+
+  -- and back, by the same boxes: the halves as they come, and exchanged as they go
+  pub restored_halves : (x : ℕ) → x < 256 → h ≡ x % 16 → l ≡ x / 16 → bit_or (b * 16 % 256) a ≡ S⁻ x
+  unfolding swapped_halves
+  restored_halves x hx eh el =
+      let hi : x / 16 < 16 = omega arith in
+      let ph : h % 16 ≡ h = mod-eq_of_lt (let e : h < 16 = omega arith in e) in
+      let pl : l % 16 ≡ l = mod-eq_of_lt (let e : l < 16 = omega arith in e) in
+      joins b a b_low a_low
+      ∙ ap₂ (λ (p q : ℕ). q * 16 + p) (sym (upper a b b_low)) (sym (lower a b b_low))
+      ∙ ap swapped_halves (made (swapped_halves x) (ph ∙ eh ∙ sym (upper (x % 16) (x / 16) hi)) (pl ∙ el ∙ sym (lower (x % 16) (x / 16) hi)))
+      ∙ sym (unboxed x hx)
 
 -- and back, the halves exchanged on the way in and on the way out
 pub restored_is : (x : ℕ) → x < 256 → swapped (S (swapped x)) ≡ S⁻ x

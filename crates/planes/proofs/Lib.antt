@@ -3,6 +3,7 @@ pub mod Tests
 pub mod BitLaws
 pub mod FlipLaws
 pub mod RowLaws
+pub mod Stores
 pub mod Crossing
 pub mod WordLaws
 pub mod Unique

@@ -1,11 +1,17 @@
--- Cited by the contracts of private functions alone: no promise to a caller names what stands here.
-use Rattle.std.specs.Prelude.{◌≡◌, List, ℕ, zero, suc, ◌+◌, ◌-◌, ◌*◌, ◌/◌, ◌%◌, ◌^◌, ◌<◌, get_or}
+-- Cited by the contracts of private functions alone, and `stored` by a law (proofs/Stores): no promise to a caller
+-- names what stands here.
+use Rattle.std.specs.Prelude.{◌≡◌, List, ℕ, zero, suc, ◌+◌, ◌-◌, ◌*◌, ◌/◌, ◌%◌, ◌^◌, ◌<◌, get_or, set}
 use Rattle.planes.specs.Planes.{bit, word}
 use Rattle.planes.specs.declared.Planes.{Planes}
 
--- ---- eight bytes in a word: those of s from `at` on
+-- ---- eight bytes in a word: those of s from `at` on, and s with those of w there
 abbrev pub Holds : List ℕ → ℕ → ℕ → Type 0
 Holds s at w = (j : ℕ) → j < 8 → w / 2 ^ (8 * j) % 256 ≡ get_or s (at + j) 0
+
+unfoldable pub stored : List ℕ → ℕ → ℕ → List ℕ
+stored s at w =
+    set (set (set (set (set (set (set (set s at (w % 256)) (at + 1) (w / 2 ^ 8 % 256)) (at + 2) (w / 2 ^ 16 % 256)) (at + 3) (w / 2 ^ 24 % 256))
+    (at + 4) (w / 2 ^ 32 % 256)) (at + 5) (w / 2 ^ 40 % 256)) (at + 6) (w / 2 ^ 48 % 256)) (at + 7) (w / 2 ^ 56 % 256)
 
 -- ---- a transposition, digit by digit
 unfoldable pub two : ℕ → ℕ → ℕ → ℕ
