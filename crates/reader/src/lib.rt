@@ -155,10 +155,11 @@ pub fn look_number(image: &[u8], p: usize) -> Result<(), Refusal>
     if !block::is_image(image.len()) {
         return Err(Refusal::WrongImage);
     }
-    if image.len() / BLOCK_BYTES <= p {
-        return Err(Refusal::Unlawful); // no block p
+    if p < image.len() / BLOCK_BYTES {
+        Ok(())
+    } else {
+        Err(Refusal::Unlawful)
     }
-    Ok(())
 }
 
 // The 512 bytes of block p as a part of the image; refused, the empty part at its front.

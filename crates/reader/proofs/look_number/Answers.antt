@@ -13,14 +13,14 @@ pub returns-then-not-is_image : goal.returns-then-not-is_image
 unfolding look_number image_ok
 returns-then-not-is_image c = rw (sym c.is_image.ensures ∙ c.if-not-is_image.true)
 
-pub returns-then-image-p : goal.returns-then-image-p
+pub returns-else-p-image : goal.returns-else-p-image
 unfolding look_number image_ok capacity_of
-returns-then-image-p c =
+returns-else-p-image c =
     let a = c.args in
     rw (sym c.is_image.ensures ∙ c.if-not-is_image.false, le-ltb a.p (length a.image.now / 512) (omega arith))
 
-pub returns : goal.returns
+pub returns-then-p-image : goal.returns-then-p-image
 unfolding look_number image_ok capacity_of
-returns c =
+returns-then-p-image c =
     let a = c.args in
     rw (sym c.is_image.ensures ∙ c.if-not-is_image.false, lt-ltb a.p (length a.image.now / 512) (omega arith))
