@@ -97,14 +97,11 @@ fn show_answer<P: Print>(rt: &P, line: Line, answer: Result<(), Refusal>) {
 }
 
 // ---- Buffers.
-fn filled(seed: usize) -> [u8; ROOM]
-    ensures { length result ≡ 100000 }
-{
-    let mut buffer = [0u8; ROOM];
+// Filled where it stands: a buffer that is returned by value stood twice in its caller's frame.
+fn fill(buffer: &mut [u8; ROOM], seed: usize) {
     for (i, byte) in buffer.iter_mut().enumerate() {
         *byte = ((seed % 256 + i % 256 * 17 + i / 256 % 256 * 3) % 256) as u8;
     }
-    buffer
 }
 
 // ---- Calls on a state. By a match: the six calls take different arguments, and a closure for each would repeat them.
@@ -129,12 +126,15 @@ fn show_out<P: Print>(rt: &P, out: &[u8]) {
     let _ = println!(rt; "out {}", Buffer(out));
 }
 
-// In a frame of its own, as sealing and opening are: each has some 100,000 bytes for each buffer.
+// In a frame of its own, as sealing and opening are: each has 100,000 bytes for each buffer.
 #[inline(never)]
 fn call_on_state<P: Print>(rt: &P, line: Line, step: Step) {
-    let text = filled(5);
-    let mut whole_state = filled(1);
-    let mut whole_out = filled(6);
+    let mut text = [0u8; ROOM];
+    fill(&mut text, 5);
+    let mut whole_state = [0u8; ROOM];
+    fill(&mut whole_state, 1);
+    let mut whole_out = [0u8; ROOM];
+    fill(&mut whole_out, 6);
     let state = &mut whole_state[..line.field(0)];
     let out = &mut whole_out[..line.out(step)];
     let answer = on_state(step, state, &text[..line.field(1)], out, line.domain());
@@ -159,9 +159,12 @@ fn damage(sealed: &mut [u8], f: usize) {
 fn make_sealed(text: &mut [u8], data: &[u8], f: usize)
     requires { length text.old < 100000 }
 {
-    let key = filled(2);
-    let nonce = filled(3);
-    let message = filled(5);
+    let mut key = [0u8; ROOM];
+    fill(&mut key, 2);
+    let mut nonce = [0u8; ROOM];
+    fill(&mut nonce, 3);
+    let mut message = [0u8; ROOM];
+    fill(&mut message, 5);
     let m = text.len().saturating_sub(TAG_BYTES);
     let _ = aead::seal(
         &key[..KEY_BYTES],
@@ -176,11 +179,16 @@ fn make_sealed(text: &mut [u8], data: &[u8], f: usize)
 // What an opening is given is sealed first.
 #[inline(never)]
 fn call_sealing<P: Print>(rt: &P, line: Line, sealing: Sealing) {
-    let whole_key = filled(2);
-    let whole_nonce = filled(3);
-    let whole_data = filled(4);
-    let mut whole_text = filled(5);
-    let mut whole_out = filled(6);
+    let mut whole_key = [0u8; ROOM];
+    fill(&mut whole_key, 2);
+    let mut whole_nonce = [0u8; ROOM];
+    fill(&mut whole_nonce, 3);
+    let mut whole_data = [0u8; ROOM];
+    fill(&mut whole_data, 4);
+    let mut whole_text = [0u8; ROOM];
+    fill(&mut whole_text, 5);
+    let mut whole_out = [0u8; ROOM];
+    fill(&mut whole_out, 6);
     let key = &whole_key[..line.field(0)];
     let nonce = &whole_nonce[..line.field(1)];
     let data = &whole_data[..line.field(2)];
