@@ -21,7 +21,9 @@ fn copy_argument<R: Env>(rt: &R, argument: Argument, text: &mut [u8]) -> usize
     rt.arg(argument as usize, text).unwrap_or(0)
 }
 
-// The number up to `most` that an argument spells in decimal.
+// The number up to `most` that an argument spells in decimal. The argument's room is in a frame of its own, which is
+// gone when the image is read.
+#[inline(never)]
 fn number<R: Env>(rt: &R, argument: Argument, most: u64) -> Result<u64, NotANumber>
     ensures { Within most result }
 {
