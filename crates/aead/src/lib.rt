@@ -56,7 +56,7 @@ fn seal_from(mut state: State, message: &[u8], out: &mut [u8])
 {
     let (cipher, tag) = out.split_at_mut(message.len());
     sponge::enc(&mut state, message, cipher, DOMAIN_MESSAGE).unwrap();
-    tag.copy_from_slice(&state[..TAG_BYTES]);
+    buffer::copy(tag, &state[..TAG_BYTES]);
 }
 
 // Opens from that state, and says whether the tag fits. All of the text is worked through, then all of the tag

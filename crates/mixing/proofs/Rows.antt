@@ -1,26 +1,34 @@
 -- Planes that hold the mix of a state by some row: what turns, doublings and sums of them hold.
 -- Assumes nothing.
-use mathlib.Core.Path.{◌≡◌, sym, ap, ap₂, ◌∙◌}
-use mathlib.Core.List.{List}
+use mathlib.Core.Path.{◌≡◌, refl, sym, ap, ap₂, subst, ◌∙◌}
+use mathlib.Core.List.{List, [], ◌∷◌}
+use mathlib.Core.Logic.{⊎_elim}
 use Prim.Native.Nat.{ℕ, ◌+◌, ◌-◌, ◌*◌, ◌/◌, ◌%◌, ◌<◌}
 use native.Mathlib.Omega.{arith}
-use lib.Dec.{T, ltb, eqb, eqb→eq}
-use lib.ListN.{length, get_or}
+use lib.Dec.{T, ltb, eqb, eqb→eq, lit<}
+use lib.Bits.{bit_xor}
+use lib.ListN.{length, get_or, set}
+use lib.Seq.{get_or-set_same, get_or-set_other}
+use Rattle.std.proofs.lemmas.Bool.{cases_eq}
+use Rattle.laws.specs.Lists.{listed}
 use Rattle.laws.specs.Xor.{xor, xor_all}
+use Rattle.laws.proofs.OrderLaws.{below8}
 use Rattle.laws.proofs.TableLaws.{every, at}
 use Rattle.laws.proofs.XorLaws.{xor_byte, all_same, all_sum}
-use Rattle.pi.specs.Field.{times}
+use Rattle.pi.specs.Field.{only, double, times_bits, times}
 use Rattle.pi.specs.Permutation.{added, turned, mix_with}
 use Rattle.pi.proofs.Build.{state_at, state_is}
 use Rattle.pi.proofs.Products.{times_in, times_assoc, times_byte, one_times}
 use Rattle.pi.proofs.Sums.{times_all}
-use Rattle.pi.proofs.StateLaws.{list_bytes}
+use Rattle.pi.proofs.StateLaws.{list_bytes, places}
 use Rattle.pi.proofs.MixLaws.{only_at, mix_diagonal}
-use Rattle.planes.specs.Planes.{flipped, bytes_of}
+use Rattle.planes.specs.Planes.{flipped, bytes_of, bit, word}
 use Rattle.planes.specs.declared.Planes.{Planes}
 use Rattle.planes.proofs.FlipLaws.{flipped_full, flipped_added}
-use Rattle.mixing.specs.Turns.{Rows_turned, bytes_doubled}
-use Rattle.mixing.proofs.States.{row_turned}
+use Rattle.mixing.specs.Turns.{before, Turned, Rows_turned, bytes_doubled}
+use Rattle.mixing.proofs.Sums as sums
+use Rattle.mixing.proofs.Sums.{alone, plane}
+use Rattle.mixing.proofs.States.{row_turned, wanted, mixes_by}
 
 -- the state that planes hold, byte by byte
 unfoldable pub byte : Planes → ℕ → ℕ
@@ -34,6 +42,46 @@ mixed_byte m p k = xor_all 8 (λ i. times (m ((k % 8 + 8 - i) % 8)) (byte p (k /
 pub record By (m : ℕ → ℕ) (p x : Planes) : Type 0 where
   pub low : (j : ℕ) → m j < 256
   pub is : (k : ℕ) → k < 64 → byte x k ≡ mixed_byte m p k
+
+-- ---- planes given word by word: turned, word i by itself, and twice
+pub words_turned : {d v : ℕ} {p r : Planes} (i : ℕ) → T (ltb i 8) → Rows_turned d p r → Turned (8 * d) (get_or p.words i 0) v
+    → Rows_turned d p (record { words = set (get_or r.words 0 0 ∷ get_or r.words 1 0 ∷ get_or r.words 2 0 ∷ get_or r.words 3 0 ∷ get_or r.words 4 0 ∷ get_or r.words 5 0 ∷ get_or r.words 6 0 ∷ get_or r.words 7 0 ∷ []) i v })
+unfolding word
+words_turned {d} {v} {p} {r} i h e t =
+    let l : List ℕ = get_or r.words 0 0 ∷ get_or r.words 1 0 ∷ get_or r.words 2 0 ∷ get_or r.words 3 0 ∷ get_or r.words 4 0 ∷ get_or r.words 5 0 ∷ get_or r.words 6 0 ∷ get_or r.words 7 0 ∷ [] in
+    let same : (n : ℕ) → n < 8 → get_or r.words n 0 ≡ get_or l n 0 =
+    below8 (λ (n : ℕ). get_or r.words n 0 ≡ get_or l n 0) refl refl refl refl refl refl refl refl in
+    record {
+      words =
+          λ n g.
+          ⊎_elim
+          (λ (q : n ≡ i).
+          subst (λ (k : ℕ). Turned (8 * d) (get_or p.words k 0) (get_or (set l i v) k 0)) (sym q)
+          (subst (Turned (8 * d) (get_or p.words i 0)) (sym (get_or-set_same l i v 0 (lit< h))) t))
+          (λ q. subst (Turned (8 * d) (get_or p.words n 0)) (same n g ∙ sym (get_or-set_other l i n v 0 q)) (e.words n g))
+          (cases_eq n i);
+    }
+
+pub words_doubled : (p : Planes)
+    → flipped (bytes_of (record {
+      words =
+          get_or p.words 7 0 ∷ get_or p.words 0 0 ∷ bit_xor (get_or p.words 1 0) (get_or p.words 7 0) ∷ bit_xor (get_or p.words 2 0) (get_or p.words 7 0)
+          ∷ bit_xor (get_or p.words 3 0) (get_or p.words 7 0) ∷ get_or p.words 4 0 ∷ get_or p.words 5 0 ∷ get_or p.words 6 0 ∷ [];
+    }))
+    ≡ bytes_doubled (flipped (bytes_of p))
+unfolding bytes_doubled plane sums.sum word alone before wanted bit only_at times times_bits double only xor places listed
+words_doubled p =
+    mixes_by (only_at 2) p _
+    (plane p _ (lit< tt))
+    (plane p _ (lit< tt))
+    (sums.sum (plane p _ (lit< tt)) (plane p _ (lit< tt)))
+    (sums.sum (plane p _ (lit< tt)) (plane p _ (lit< tt)))
+    (sums.sum (plane p _ (lit< tt)) (plane p _ (lit< tt)))
+    (plane p _ (lit< tt))
+    (plane p _ (lit< tt))
+    (plane p _ (lit< tt))
+    tt tt tt tt tt tt tt tt
+    ∙ mix_diagonal 2 (flipped (bytes_of p))
 
 -- ---- what is the mix by a row of bytes
 pub by_row : {p x : Planes} (row : List ℕ) → T (every (λ k c. ltb c 256) 0 row) → flipped (bytes_of x) ≡ mix_with row (flipped (bytes_of p))

@@ -1,17 +1,17 @@
 -- Eight bytes in a word, eight words in 64 bytes, and what a loop over eight words has done.
 -- Assumes nothing.
 use mathlib.Core.Path.{◌≡◌, refl, sym, ap, ap₂, subst, ◌∙◌}
-use mathlib.Core.List.{List, [], ◌∷◌, ◌++◌}
+use mathlib.Core.List.{List, [], ◌∷◌}
 use mathlib.Core.Logic.{⊎_elim}
-use Prim.Native.Nat.{ℕ, zero, suc, ◌+◌, ◌*◌, ◌/◌, ◌%◌, ◌^◌, ◌-◌, ◌<◌, ◌≤◌}
+use Prim.Native.Nat.{ℕ, zero, suc, ◌+◌, ◌*◌, ◌/◌, ◌%◌, ◌^◌, ◌<◌, ◌≤◌}
 use native.Mathlib.Nat.{mod-lt, div-one, add-zero}
 use native.Mathlib.Omega.{arith}
-use borrow.Rule.Slice.PartMut.{put_mid}
-use lib.Dec.{lit<}
+use lib.Dec.{T, ltb, lit<}
 use lib.Bits.{bit_xor, xor_shr, xor_mod}
-use lib.ListN.{length, get_or, set, take, drop, length-set, length-append, length-drop, get_or-append}
-use lib.Seq.{get_or-set_same, get_or-set_other, get_or-take, get_or-append-add, length-take-le}
+use lib.ListN.{length, get_or, set, length-set}
+use lib.Seq.{get_or-set_same, get_or-set_other}
 use Rattle.std.specs.Int.{w64, to_le_bytes, from_le_bytes}
+use Rattle.std.proofs.lemmas.Bool.{cases_eq}
 use Rattle.std.proofs.lemmas.Nat.{le_bytes_8}
 use Rattle.laws.specs.Xor.{xor}
 use Rattle.laws.proofs.OrderLaws.{lt_or_ge, below8}
@@ -35,6 +35,17 @@ first_more P n v l h p q = (
       let e : n ≡ i = omega arith in
       subst (λ (j : ℕ). P j (get_or (set l n v) j 0)) e (subst (P n) (sym (get_or-set_same l n v 0 (omega (arith, p.0)))) q))
       (lt_or_ge i n),
+)
+
+-- and word k set again
+pub first_set : (P : ℕ → ℕ → Type 0) (k n v : ℕ) (l : List ℕ) → T (ltb k 8) → First P n l → P k v → First P n (set l k v)
+first_set P k n v l h p q = (
+  length-set l k v ∙ p.0,
+  λ i g.
+      ⊎_elim
+      (λ (e : i ≡ k). subst (λ (j : ℕ). P j (get_or (set l k v) j 0)) (sym e) (subst (P k) (sym (get_or-set_same l k v 0 (omega (arith, p.0, lit< h)))) q))
+      (λ (e : i ≡ k → ⊥). subst (P i) (sym (get_or-set_other l k i v 0 e)) (p.1 i g))
+      (cases_eq i k),
 )
 
 pub first_all : (P : ℕ → ℕ → Type 0) (n : ℕ) (l : List ℕ) → 8 ≤ n → First P n l → (i : ℕ) → i < 8 → P i (get_or l i 0)
@@ -73,28 +84,12 @@ words_is s r l e =
     let f : 8 * (k / 8) + k % 8 ≡ k = omega arith in
     e (k / 8) (omega arith) (k % 8) (mod-lt k (lit< tt)) ∙ ap (λ (n : ℕ). get_or s n 0) f)
 
--- the bytes of the first n words are there
-abbrev pub Put : Planes → ℕ → List ℕ → Type 0
-Put p n s = (length s ≡ 64) × ((k : ℕ) → k < 8 * n → word p (k / 8) / 2 ^ (8 * (k % 8)) % 256 ≡ get_or s k 0)
+-- the first n bytes are there, and those of the first n words
+abbrev pub There : Planes → ℕ → List ℕ → Type 0
+There p n s = (length s ≡ 64) × ((k : ℕ) → k < n → word p (k / 8) / 2 ^ (8 * (k % 8)) % 256 ≡ get_or s k 0)
 
-pub put_more : (p : Planes) (n : ℕ) (s b : List ℕ) → n < 8 → b ≡ to_le_bytes w64 (word p n) → Put p n s → Put p (n + 1) (put_mid (8 * n) (8 * n + 8 - 8 * n) s b)
-put_more p n s b h e q =
-    let a = 8 * n in
-    let m : length (take a s) ≡ a = length-take-le a s (omega (arith, q.0)) in
-    let f : length b ≡ 8 = ap length e in
-    let rest = drop (a + 8 - a) (drop a s) in (
-      length-append (take a s) (b ++ rest) ∙ ap₂ ◌+◌ m (length-append b rest ∙ ap₂ ◌+◌ f (length-drop (a + 8 - a) (drop a s) ∙ ap (λ (k : ℕ). k - (a + 8 - a)) (length-drop a s))) ∙ omega (arith, q.0),
-      λ k l.
-          ⊎_elim
-          (λ i. q.1 k i ∙ sym (get_or-append (take a s) (b ++ rest) 0 k (omega arith) ∙ get_or-take a s k 0 i))
-          (λ i.
-          let g : (k / 8 ≡ n) × (k % 8 ≡ k - a) = (omega arith, omega arith) in
-          let o : k ≡ length (take a s) + (k - a) = omega arith in
-          ap₂ (λ (i j : ℕ). word p i / 2 ^ (8 * j) % 256) g.0 g.1
-          ∙ sym (byte_of_word (word p n) (k - a) (omega arith)) ∙ ap (λ (t : List ℕ). get_or t (k - a) 0) (sym e)
-          ∙ sym (ap (λ (j : ℕ). get_or (take a s ++ (b ++ rest)) j 0) o ∙ get_or-append-add (take a s) (b ++ rest) (k - a) 0 ∙ get_or-append b rest 0 (k - a) (omega arith)))
-          (lt_or_ge k a),
-    )
+abbrev pub Put : Planes → ℕ → List ℕ → Type 0
+Put p n s = There p (8 * n) s
 
 pub put_all : (p : Planes) (n : ℕ) (s : List ℕ) → 8 ≤ n → Put p n s → s ≡ bytes_of p
 unfolding bytes_of

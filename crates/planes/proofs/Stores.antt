@@ -1,59 +1,69 @@
 -- Eight words, each stored byte by byte behind the one before, are the planes' 64 bytes.
 -- Assumes nothing.
-use mathlib.Core.Path.{◌≡◌, refl, sym, ap, ap₂, ◌∙◌}
+use mathlib.Core.Path.{◌≡◌, refl, sym, ap, ap₂, subst, ◌∙◌}
 use mathlib.Core.List.{List}
-use Prim.Native.Nat.{ℕ, ◌+◌, ◌*◌, ◌/◌, ◌%◌, ◌^◌, ◌<◌, ◌≤◌}
-use native.Mathlib.Nat.{div-one, add-zero, add_assoc}
+use mathlib.Core.Logic.{⊎_elim}
+use Prim.Native.Nat.{ℕ, ◌+◌, ◌*◌, ◌/◌, ◌%◌, ◌^◌, ◌<◌}
+use native.Mathlib.Nat.{div-one, not-suc-le-zero}
 use native.Mathlib.Omega.{arith}
 use lib.Dec.{lit<}
-use lib.ListN.{length, set}
-use Rattle.laws.specs.Loops.{front}
-use Rattle.laws.proofs.ListLaws.{front_none, front_more}
-use Rattle.pi.proofs.Build.{state_all}
+use lib.ListN.{length, get_or, set, length-set}
+use lib.Seq.{get_or-set_same, get_or-set_other}
+use Rattle.std.specs.Int.{w64, to_le_bytes}
+use Rattle.laws.proofs.OrderLaws.{lt_or_ge}
 use Rattle.planes.specs.Planes.{word, bytes_of}
 use Rattle.planes.specs.Packing.{stored}
 use Rattle.planes.specs.declared.Planes.{Planes}
+use Rattle.planes.proofs.RowLaws.{There, Put, put_all}
 
-module _ (f : ℕ → ℕ) (s : List ℕ) where
-  next : (i m v : ℕ) (t : List ℕ) → t ≡ front (i + m) f s → i + m < length s → v ≡ f (i + m) → set t (i + m) v ≡ front (i + (m + 1)) f s
-  next i m v t e h g = front_more (i + m) f s t v e h g ∙ ap (λ (n : ℕ). front n f s) (add_assoc i m 1)
+-- ---- a word's bytes, one by one
+pub stored_is : (s : List ℕ) (at w : ℕ) (b : List ℕ) → b ≡ to_le_bytes w64 w
+    → set (set (set (set (set (set (set (set s at (get_or b 0 0)) (at + 1) (get_or b 1 0)) (at + 2) (get_or b 2 0)) (at + 3) (get_or b 3 0))
+    (at + 4) (get_or b 4 0)) (at + 5) (get_or b 5 0)) (at + 6) (get_or b 6 0)) (at + 7) (get_or b 7 0) ≡ stored s at w
+unfolding stored
+stored_is s at w b e = rw e refl
 
-  stored_more : (i w : ℕ) (t u : List ℕ) → t ≡ front i f s → i + 8 ≤ length s → ((j : ℕ) → j < 8 → w / 2 ^ (8 * j) % 256 ≡ f (i + j)) → u ≡ stored t i w → u ≡ front (i + 8) f s
-  unfolding stored
-  stored_more i w t u e h g eu =
-      eu
-      ∙ next i 7 _ _ (next i 6 _ _ (next i 5 _ _ (next i 4 _ _ (next i 3 _ _ (next i 2 _ _ (next i 1 _ _
-      (front_more i f s t _ e (omega arith) (ap (λ (y : ℕ). y % 256) (sym (div-one w)) ∙ g 0 (lit< tt) ∙ ap f (add-zero i)))
-      (omega arith) (g 1 (lit< tt))) (omega arith) (g 2 (lit< tt))) (omega arith) (g 3 (lit< tt))) (omega arith) (g 4 (lit< tt))) (omega arith) (g 5 (lit< tt))) (omega arith) (g 6 (lit< tt))) (omega arith) (g 7 (lit< tt))
+-- ---- byte m of word i behind the bytes before it, and so eight of them, a word
+there_more : (p : Planes) (s : List ℕ) (m : ℕ) {i k n v : ℕ} → i < 8 → m < 8 → k ≡ 8 * i + m → n ≡ k + 1 → v ≡ word p i / 2 ^ (8 * m) % 256
+    → There p k s → There p n (set s k v)
+there_more p s m {i} {k} {n} {v} h hm e f g q = (
+  length-set s k v ∙ q.0,
+  λ j l.
+      ⊎_elim
+      (λ o. q.1 j o ∙ sym (get_or-set_other s k j v 0 (λ x. omega arith)))
+      (λ o.
+      let d : (j / 8 ≡ i) × (j % 8 ≡ m) = (omega arith, omega arith) in
+      let x : j ≡ k = omega arith in
+      ap₂ (λ (a b : ℕ). word p a / 2 ^ (8 * b) % 256) d.0 d.1 ∙ sym g
+      ∙ sym (ap (λ (y : ℕ). get_or (set s k v) y 0) x ∙ get_or-set_same s k v 0 (omega (arith, q.0))))
+      (lt_or_ge j k),
+)
 
--- byte j of word i is byte 8i + j
-in_row : (p : Planes) (i j : ℕ) → j < 8 → word p i / 2 ^ (8 * j) % 256 ≡ word p ((8 * i + j) / 8) / 2 ^ (8 * ((8 * i + j) % 8)) % 256
-in_row p i j h =
-    let e₁ : (8 * i + j) / 8 ≡ i = omega arith in
-    let e₂ : (8 * i + j) % 8 ≡ j = omega arith in
-    sym (ap₂ (λ (m n : ℕ). word p m / 2 ^ (8 * n) % 256) e₁ e₂)
+pub put_stored : (p : Planes) (n : ℕ) (s t : List ℕ) → n < 8 → t ≡ stored s (8 * n) (word p n) → Put p n s → Put p (n + 1) t
+unfolding stored
+put_stored p n s t h e q =
+    subst (Put p (n + 1)) (sym e)
+    (there_more p _ 7 h (lit< tt) refl (omega arith) refl
+    (there_more p _ 6 h (lit< tt) refl (omega arith) refl
+    (there_more p _ 5 h (lit< tt) refl (omega arith) refl
+    (there_more p _ 4 h (lit< tt) refl (omega arith) refl
+    (there_more p _ 3 h (lit< tt) refl (omega arith) refl
+    (there_more p _ 2 h (lit< tt) refl (omega arith) refl
+    (there_more p _ 1 h (lit< tt) refl (omega arith) refl
+    (there_more p _ 0 h (lit< tt) (omega arith) (omega arith) (ap (λ (y : ℕ). y % 256) (sym (div-one (word p n)))) q))))))))
 
+-- ---- eight words
 pub put_words_is : (p : Planes) (s s₁ s₂ s₃ s₄ s₅ s₆ s₇ s₈ : List ℕ) → length s ≡ 64
     → s₁ ≡ stored s 0 (word p 0) → s₂ ≡ stored s₁ 8 (word p 1) → s₃ ≡ stored s₂ 16 (word p 2) → s₄ ≡ stored s₃ 24 (word p 3)
     → s₅ ≡ stored s₄ 32 (word p 4) → s₆ ≡ stored s₅ 40 (word p 5) → s₇ ≡ stored s₆ 48 (word p 6) → s₈ ≡ stored s₇ 56 (word p 7)
     → s₈ ≡ bytes_of p
-unfolding bytes_of
 put_words_is p s s₁ s₂ s₃ s₄ s₅ s₆ s₇ s₈ l e₁ e₂ e₃ e₄ e₅ e₆ e₇ e₈ =
-    let f : ℕ → ℕ = λ k. word p (k / 8) / 2 ^ (8 * (k % 8)) % 256 in
-    state_all 64 f s s₈
-    (stored_more f s 56 (word p 7) s₇ s₈
-    (stored_more f s 48 (word p 6) s₆ s₇
-    (stored_more f s 40 (word p 5) s₅ s₆
-    (stored_more f s 32 (word p 4) s₄ s₅
-    (stored_more f s 24 (word p 3) s₃ s₄
-    (stored_more f s 16 (word p 2) s₂ s₃
-    (stored_more f s 8 (word p 1) s₁ s₂
-    (stored_more f s 0 (word p 0) s s₁ (front_none f s) (omega arith) (in_row p 0) e₁)
-    (omega arith) (in_row p 1) e₂)
-    (omega arith) (in_row p 2) e₃)
-    (omega arith) (in_row p 3) e₄)
-    (omega arith) (in_row p 4) e₅)
-    (omega arith) (in_row p 5) e₆)
-    (omega arith) (in_row p 6) e₇)
-    (omega arith) (in_row p 7) e₈)
-    l refl
+    put_all p 8 s₈ (lit< tt)
+    (put_stored p 7 s₇ s₈ (lit< tt) e₈
+    (put_stored p 6 s₆ s₇ (lit< tt) e₇
+    (put_stored p 5 s₅ s₆ (lit< tt) e₆
+    (put_stored p 4 s₄ s₅ (lit< tt) e₅
+    (put_stored p 3 s₃ s₄ (lit< tt) e₄
+    (put_stored p 2 s₂ s₃ (lit< tt) e₃
+    (put_stored p 1 s₁ s₂ (lit< tt) e₂
+    (put_stored p 0 s s₁ (lit< tt) e₁ (l, λ k h. absurd (not-suc-le-zero h))))))))))

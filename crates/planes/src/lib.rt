@@ -4,7 +4,7 @@
 ghost use Rattle.std.specs.Prelude.{◌≡◌, ◌+◌, ◌≤◌, length};
 ghost use Rattle.pi.specs.Permutation.{added};
 ghost use Rattle.planes.specs.Planes.{flipped, bytes_of};
-ghost use Rattle.planes.specs.Packing.{Holds, Across, Crosswise, Crossed};
+ghost use Rattle.planes.specs.Packing.{Holds, stored, Across, Crosswise, Crossed};
 
 // Eight words: byte j of word b is byte 8b + j of the planes.
 #[derive(Clone, Copy)]
@@ -42,13 +42,29 @@ pub fn words(s: &[u8; 64]) -> Planes
     Planes { words }
 }
 
+// The eight bytes of w, the lowest first, from `at` on. A line for each, so that an edit can put one elsewhere.
+fn store(s: &mut [u8; 64], at: usize, w: u64)
+    requires { at + 8 ≤ 64 }
+    ensures { s.new ≡ stored s.old at w }
+{
+    let bytes = w.to_le_bytes();
+    s[at] = bytes[0];
+    s[at + 1] = bytes[1];
+    s[at + 2] = bytes[2];
+    s[at + 3] = bytes[3];
+    s[at + 4] = bytes[4];
+    s[at + 5] = bytes[5];
+    s[at + 6] = bytes[6];
+    s[at + 7] = bytes[7];
+}
+
 // And back.
 #[inline(always)]
 pub fn put_words(s: &mut [u8; 64], p: Planes)
     ensures { s.new ≡ bytes_of p }
 {
     for b in 0..8usize {
-        s[8 * b..8 * b + 8].copy_from_slice(&p.words[b].to_le_bytes());
+        store(s, 8 * b, p.words[b]);
     }
 }
 

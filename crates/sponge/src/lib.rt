@@ -106,13 +106,14 @@ fn last(n: usize) -> usize
 fn absorb(state: &mut State, bytes: &[u8], domain: u8)
     ensures { state.new ≡ after put domain state.old bytes.now }
 {
-    let (full, rest) = bytes.split_at(last(bytes.len()) * RATE_BYTES);
-    for group in full.chunks_exact(RATE_BYTES) {
+    let n = bytes.len();
+    let at = last(n) * RATE_BYTES;
+    for group in bytes[..at].chunks_exact(RATE_BYTES) {
         buffer::add(state, group);
         between(state, domain);
     }
-    buffer::add(state, rest);
-    close(state, rest.len(), domain);
+    buffer::add(state, &bytes[at..]);
+    close(state, n - at, domain);
 }
 
 // All of io, in place. By index: what is written through `chunks_exact_mut` is not known to a proof afterwards.

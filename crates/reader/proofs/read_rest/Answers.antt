@@ -41,6 +41,8 @@ loop-q-init c =
 pub returns-in-Shut : goal.returns-in-Shut
 returns-in-Shut c = turn_shut (turn (goal.at.returns-in-Shut c).After-open_at) c.in-Shut.is c.answer_with.ensures
 
+-- a record's first block, a mark or end of data: the record is cut,
+-- and what cut it is read next
 pub returns-in-First : goal.returns-in-First
 returns-in-First c = turn_head (turn (goal.at.returns-in-First c).After-open_at) c.in-First.is c.answer_with-in-First.ensures
 

@@ -11,6 +11,6 @@ abbrev pub invariant-loop-group : goal.invariant-loop-group
 invariant-loop-group l = record {
   size : l.group-iterator.size ≡ 32;
   state : l.state ≡ met put l.domain l.initial.state l.bytes (length l.yielded);
-  left : drop (length l.yielded * 32) l.bytes ≡ l.group-iterator.rest.now ++ l.rest;
-  count : length l.yielded * 32 + length l.group-iterator.rest.now + length l.rest ≡ length l.bytes;
+  left : drop (length l.yielded * 32) l.bytes ≡ l.group-iterator.rest.now ++ drop l.at l.bytes;
+  count : length l.yielded * 32 + length l.group-iterator.rest.now ≡ l.at;
 }
