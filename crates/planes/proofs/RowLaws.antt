@@ -21,6 +21,11 @@ use Rattle.planes.specs.Planes.{word, bytes_of}
 use Rattle.planes.specs.Packing.{Holds}
 use Rattle.planes.specs.declared.Planes.{Planes}
 
+-- ---- word i is the one at place i
+pub word_at : (p : Planes) (i : ℕ) → word p i ≡ get_or p.words i 0
+unfolding word
+word_at p i = ap (λ (j : ℕ). get_or p.words j 0) (omega arith)
+
 -- ---- a loop over eight words: the first n of l are as P says
 abbrev pub First : (ℕ → ℕ → Type 0) → ℕ → List ℕ → Type 0
 First P n l = (length l ≡ 8) × ((i : ℕ) → i < n → P i (get_or l i 0))
@@ -96,6 +101,10 @@ unfolding bytes_of
 put_all p n s h q = sym (state_is _ s q.0 (λ k l. q.1 k (omega arith)))
 
 -- ---- word by word
+-- where the words at two places are taken, and each is place b
+pub sum_at : (p q : Planes) {x b i j : ℕ} → x ≡ bit_xor (get_or p.words i 0) (get_or q.words j 0) → i ≡ b → j ≡ b → x ≡ bit_xor (word p b) (word q b)
+sum_at p q {b = b} e f g = e ∙ ap₂ (λ (m n : ℕ). bit_xor (get_or p.words m 0) (get_or q.words n 0)) f g ∙ ap₂ bit_xor (sym (word_at p b)) (sym (word_at q b))
+
 pub sum_is : (p q r : Planes) → ((i : ℕ) → i < 8 → word r i ≡ bit_xor (word p i) (word q i)) → bytes_of r ≡ added (bytes_of q) (bytes_of p)
 unfolding bytes_of added xor
 sum_is p q r e =

@@ -9,7 +9,6 @@ use native.Mathlib.Omega.{arith}
 use lib.Dec.{lit<}
 use lib.ListN.{length, get_or, set, length-set}
 use lib.Seq.{get_or-set_same, get_or-set_other}
-use Rattle.std.specs.Int.{w64, to_le_bytes}
 use Rattle.laws.proofs.OrderLaws.{lt_or_ge}
 use Rattle.planes.specs.Planes.{word, bytes_of}
 use Rattle.planes.specs.Packing.{stored}
@@ -17,11 +16,11 @@ use Rattle.planes.specs.declared.Planes.{Planes}
 use Rattle.planes.proofs.RowLaws.{There, Put, put_all}
 
 -- ---- a word's bytes, one by one
-pub stored_is : (s : List ℕ) (at w : ℕ) (b : List ℕ) → b ≡ to_le_bytes w64 w
-    → set (set (set (set (set (set (set (set s at (get_or b 0 0)) (at + 1) (get_or b 1 0)) (at + 2) (get_or b 2 0)) (at + 3) (get_or b 3 0))
-    (at + 4) (get_or b 4 0)) (at + 5) (get_or b 5 0)) (at + 6) (get_or b 6 0)) (at + 7) (get_or b 7 0) ≡ stored s at w
+pub stored_is : (s : List ℕ) (at w : ℕ) {a b c d e f g h : ℕ}
+    → a ≡ w % 256 → b ≡ w / 2 ^ 8 % 256 → c ≡ w / 2 ^ 16 % 256 → d ≡ w / 2 ^ 24 % 256 → e ≡ w / 2 ^ 32 % 256 → f ≡ w / 2 ^ 40 % 256 → g ≡ w / 2 ^ 48 % 256 → h ≡ w / 2 ^ 56 % 256
+    → set (set (set (set (set (set (set (set s at a) (at + 1) b) (at + 2) c) (at + 3) d) (at + 4) e) (at + 5) f) (at + 6) g) (at + 7) h ≡ stored s at w
 unfolding stored
-stored_is s at w b e = rw e refl
+stored_is s at w ea eb ec ed ee ef eg eh = cc
 
 -- ---- byte m of word i behind the bytes before it, and so eight of them, a word
 there_more : (p : Planes) (s : List ℕ) (m : ℕ) {i k n v : ℕ} → i < 8 → m < 8 → k ≡ 8 * i + m → n ≡ k + 1 → v ≡ word p i / 2 ^ (8 * m) % 256

@@ -16,6 +16,7 @@ use denote.Laws.{Is}
 use denote.Shadow.{shadow}
 use Rattle.planes.specs.Planes.{flipped, word, bytes_of}
 use Rattle.planes.specs.declared.Planes.{Planes}
+use Rattle.planes.proofs.RowLaws.{word_at}
 use Rattle.planes.specs.contracts.Planes.{the_row}
 use Rattle.planes.proofs.FlipLaws.{flip_flip, bytes_of_full, bytes_of_at}
 
@@ -51,11 +52,6 @@ fit p vs u =
     let t = u.1.1.0.1 in
     record { long = t.0.1; below = λ i. each_below p.words _ t.1 _ }
 
--- word i is the one at place i
-word_at : (p : Planes) (i : ℕ) → i < 8 → word p i ≡ get_or p.words i 0
-unfolding word
-word_at p i h = ap (λ (j : ℕ). get_or p.words j 0) (omega arith)
-
 module _ (p q : Planes) (u : Words p) (v : Words q) where
   each_same : bytes_of p ≡ bytes_of q → (i : ℕ) → i < 8 → word p i ≡ word q i
   each_same e i h =
@@ -67,7 +63,7 @@ module _ (p q : Planes) (u : Words p) (v : Words q) where
       let s : p.words ≡ q.words =
       ext_get_or 0 p.words q.words (u.long ∙ sym v.long) (λ i h.
       let l : i < 8 = omega (arith, u.long) in
-      sym (word_at p i l) ∙ each_same e i l ∙ word_at q i l) in
+      sym (word_at p i) ∙ each_same e i l ∙ word_at q i) in
       λ k. record { words = s k }
 
   pub same_flipped : flipped (bytes_of p) ≡ flipped (bytes_of q) → p ≡ q

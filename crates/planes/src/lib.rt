@@ -30,18 +30,6 @@ fn row(s: &[u8], at: usize) -> u64
     ])
 }
 
-// The 64 bytes as eight words. Inlined where it is called, as what stands below is: by calls π takes 5,500 instructions.
-#[inline(always)]
-pub fn words(s: &[u8; 64]) -> Planes
-    ensures { bytes_of result ≡ s.now }
-{
-    let mut words = [0u64; 8];
-    for b in 0..8usize {
-        words[b] = row(s, 8 * b);
-    }
-    Planes { words }
-}
-
 // The eight bytes of w, the lowest first, from `at` on. A line for each, so that an edit can put one elsewhere.
 fn store(s: &mut [u8; 64], at: usize, w: u64)
     requires { at + 8 ≤ 64 }
@@ -56,6 +44,18 @@ fn store(s: &mut [u8; 64], at: usize, w: u64)
     s[at + 5] = bytes[5];
     s[at + 6] = bytes[6];
     s[at + 7] = bytes[7];
+}
+
+// The 64 bytes as eight words. Inlined where it is called, as what stands below is: by calls π takes 5,500 instructions.
+#[inline(always)]
+pub fn words(s: &[u8; 64]) -> Planes
+    ensures { bytes_of result ≡ s.now }
+{
+    let mut words = [0u64; 8];
+    for b in 0..8usize {
+        words[b] = row(s, 8 * b);
+    }
+    Planes { words }
 }
 
 // And back.

@@ -59,6 +59,12 @@ module _ (s : WriterState) (key image : List ℕ) where
         leaves = l;
       })
 
+  -- the same, where the position and what the answer goes by are said of two numbers
+  pub item_taken_at : (i : Item) (k : ℕ) {p q n : ℕ} {a : Reply} {image' : List ℕ} → item_number s key image i ≡ 0 → k ≡ size i → n ≡ s.marks + file_marks i
+      → p ≡ s.position + k → q ≡ s.position + k → a ≡ answer_at s q → image' ≡ (taken s key image i).image
+      → Did (write s key image i) (record { state = moved s p s.closed n; reply = Ok a }) image'
+  item_taken_at i k e z m f g w l = rw f (item_taken i e z m (w ∙ ap (answer_at s) g) l)
+
 pub start_refused : (id recording z : ℕ) (image : List ℕ) {e : Refusal} → cause_number e ≡ start_number image z
     → Did (start id recording z image) (record { state = refused_state; reply = Err e }) image
 unfolding start

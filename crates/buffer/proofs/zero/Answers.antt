@@ -1,7 +1,7 @@
 -- `buffer::zero` meets its contract. The invariant of its loop: the first k bytes are zero, the rest stands.
 -- Assumes nothing.
 use borrow.Author.Fill.{fill_more}
-use mathlib.Core.Path.{◌≡◌, refl, ap, ◌∙◌}
+use mathlib.Core.Path.{◌≡◌, ap, ◌∙◌}
 use mathlib.Core.List.{List, ◌++◌, append-nil}
 use Prim.Native.Nat.{ℕ}
 use native.Mathlib.Omega.{arith}
@@ -13,7 +13,7 @@ pub loop-k-preserved : goal.loop-k-preserved
 loop-k-preserved c = let l = c.loop-k in
     let o = c.args.out.now in (
       simp length-set (omega arith),
-      ap (λ (q : List ℕ). set q l.k 0) l.invariant.1 ∙ fill_more l.k 0 o (omega arith),
+      ap (λ (n : ℕ). set l.out n 0) (omega arith) ∙ ap (λ (q : List ℕ). set q l.k 0) l.invariant.1 ∙ fill_more l.k 0 o (omega arith),
       simp length-set l.invariant.2,
     )
 

@@ -9,7 +9,7 @@ use Rattle.block.specs.Image.{lay}
 use Rattle.writer.specs.Items.{fmark}
 use Rattle.writer.specs.Writing.{room}
 use Rattle.writer.proofs.Ready.{allowed_ready, allowed_facts, item_asks}
-use Rattle.writer.proofs.Answers.{first_refused, write_refused, item_taken}
+use Rattle.writer.proofs.Answers.{first_refused, write_refused, item_taken_at}
 use Rattle.writer.proofs.WriterState.write_mark.Goals as goal
 
 pub returns-in_err-key : goal.returns-in_err-key
@@ -33,6 +33,8 @@ lay_block-requires c = let f = allowed_facts _ c.in_ok-key.ensures.code in (omeg
 pub answer_at-requires : goal.answer_at-requires
 answer_at-requires c = let f = allowed_facts _ c.in_ok-key.ensures.code in omega arith
 
+-- there are no more marks than blocks before the position,
+-- and these are fewer than the capacity
 pub overflow_add-self : goal.overflow_add-self
 overflow_add-self c = let f = allowed_facts _ c.in_ok-key.ensures.code in omega arith
 
@@ -41,4 +43,4 @@ unfolding room lay
 returns c =
     let s = c.args.self.now in
     let h : s.position + 1 < s.capacity = omega arith in
-    item_taken _ _ _ fmark (item_asks (allowed_ready c.in_ok-key.ensures.code) fmark ∙ simp (lt-ltb _ _ h)) refl refl c.answer_at.ensures (rw c.in_ok-key.ensures.key at c.lay_block.ensures)
+    item_taken_at _ _ _ fmark 1 (item_asks (allowed_ready c.in_ok-key.ensures.code) fmark ∙ simp (lt-ltb _ _ h)) refl refl (omega arith) (omega arith) c.answer_at.ensures (rw c.in_ok-key.ensures.key at c.lay_block.ensures)

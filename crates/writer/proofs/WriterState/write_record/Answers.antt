@@ -11,7 +11,7 @@ use Rattle.std.proofs.lemmas.Bool.Decides.{nat_tests}
 use Rattle.writer.specs.Items.{rec, blocks_for}
 use Rattle.writer.specs.Writing.{length_ok, room}
 use Rattle.writer.proofs.Ready.{allowed_ready, allowed_facts, item_asks}
-use Rattle.writer.proofs.Answers.{first_refused, write_refused, item_taken}
+use Rattle.writer.proofs.Answers.{first_refused, write_refused, item_taken_at}
 use Rattle.writer.proofs.WriterState.write_record.Goals as goal
 
 pub returns-in_err-key : goal.returns-in_err-key
@@ -56,5 +56,5 @@ returns c =
     let b = c.args.bytes.now in
     let l : length_ok (rec b) ≡ true = grind (arith, nat_tests) in
     let h : s.position + blocks_for (length b) < s.capacity = omega (arith, c.blocks_for-k.ensures) in
-    item_taken _ _ _ (rec _) (item_asks (allowed_ready c.in_ok-key.ensures.code) (rec _) ∙ simp (l, lt-ltb _ _ h)) c.blocks_for-k.ensures.0 (omega arith)
+    item_taken_at _ _ _ (rec _) _ (item_asks (allowed_ready c.in_ok-key.ensures.code) (rec _) ∙ simp (l, lt-ltb _ _ h)) c.blocks_for-k.ensures.0 (omega arith) (omega arith) (omega arith)
     c.answer_at.ensures (rw c.in_ok-key.ensures.key at c.lay_record.ensures)
